@@ -5,7 +5,7 @@ from marked import Case
 USAGE = {
     "eevdf": "usage: eevdf solo|replay|run [--history] [--strict] [FILE]\n",
     "eevdf_orders": "usage: eevdf_orders [--seed N] [FILE]\n",
-    "eevdf_timeline": "usage: eevdf_timeline [--replay|--run] [--perfetto|--table|--stats [--json]] [--rows cpus|tasks]"
+    "eevdf_timeline": "usage: eevdf_timeline [--replay|--run] [--html|--perfetto|--table|--stats [--json]] [--rows cpus|tasks]"
                       " [--from NS] [--to NS] [--cpu N,..] [--task N,..] [FILE]\n",
 }
 COMMANDS = "commands are solo, replay, run\n"
@@ -52,6 +52,8 @@ WORDS = (
     words("eevdf_timeline", "--json", "--json stands with --stats\n"),
     words("eevdf_timeline", "--perfetto --stats", "--perfetto excludes --stats and --json\n"),
     words("eevdf_timeline", "--table --stats", "--table excludes --perfetto, --stats and --json\n"),
+    words("eevdf_timeline", "--html --stats", "--html excludes --perfetto, --table, --stats and --json\n"),
+    words("eevdf_timeline", "--perfetto --html", "--html excludes --perfetto, --table, --stats and --json\n"),
     words("eevdf_timeline", "--perfetto --table", "--table excludes --perfetto, --stats and --json\n"),
     words("eevdf_timeline", "--rows both", '--rows takes cpus or tasks, and "both" is neither\n'),
     words("eevdf_timeline", "--rows=tasks --table", "rows are of a picture: --rows excludes --perfetto, --table and --stats\n"),

@@ -7,6 +7,7 @@ last line is 'N passed, M failed'."""
 import json
 import re
 import sys
+import tempfile
 from pathlib import Path
 from random import Random
 
@@ -15,11 +16,13 @@ HERE = Path(__file__).resolve().parent
 sys.path[:0] = [str(HERE), str(HERE.parent), str(HERE.parent / "drawn")]
 
 import made
+from browser import check_in_browser
 from draw import cases
 from events import CPUS, check_trace, check_unknown_trace
 from figures import check_json, check_rows, check_table
 from large import check_large
 from model import Timeline
+from pages import check_page, check_whole, picture_in
 from pictured import check_picture, check_task_picture, check_unknown
 from plain.fault import Fault
 from plain.made_order import made_order
@@ -38,6 +41,9 @@ DRAWN = 40
 # How many of the deeds of the longest workload are compared with the model, which is a scan.
 COMPARED = 2400
 
+# Names of files that would end a script or begin a tag, a comment or an entity.
+HOSTILE_NAMES = ("a</script><script>alert(1)</script>.toml", "<!--.toml", "\"'&lt;&<b onclick=alert(1)>.toml", "two\nlines\\u003c.toml")
+
 # The pictures of docs/, and the workload and words of each.
 PICTURES = {"pull.svg": ("examples/pull.toml", ()), "interleaving.svg": ("examples/interleaving.toml", ("--replay",))}
 
@@ -45,13 +51,21 @@ PICTURES = {"pull.svg": ("examples/pull.toml", ()), "interleaving.svg": ("exampl
 def check_all(checks, data, script, words=()):
     """Looks at all outputs, and gives how many stretches the picture joins in boxes."""
     timeline = Timeline(read_workload(data).setup, script)
-    joined = check_picture(checks.written(words, data), timeline)
+    picture = checks.written(words, data)
+    joined = check_picture(picture, timeline)
     check_task_picture(checks.written((*words, "--rows", "tasks"), data), timeline)
     check_trace(checks.written((*words, "--perfetto"), data), timeline)
-    check_stretch_table(checks.written((*words, "--table"), data), timeline)
-    figures = checks.written((*words, "--stats", "--json"), data)
+    table = checks.written((*words, "--table"), data)
+    check_stretch_table(table, timeline)
+    figures, text = checks.written((*words, "--stats", "--json"), data), checks.written((*words, "--stats"), data)
     check_json(figures, timeline)
-    check_table(checks.written((*words, "--stats"), data), json.loads(figures))
+    check_table(text, json.loads(figures))
+    page = checks.written((*words, "--html"), data)
+    if words == SOURCES["run"]:
+        # what CPUs do that have nothing of one another comes in another order in each run
+        check_picture(picture_in(page), timeline)
+    else:
+        check_page(page, timeline, picture, table, text)
     return joined
 
 
@@ -105,8 +119,11 @@ def check_window(checks, data):
     begin, end = timeline.end() // 3, max(2 * timeline.end() // 3, timeline.end() // 3 + 1)
     cpus = list(range(0, timeline.setup.cpus(), 2))
     words = ("--from", str(begin), "--to", str(end), "--cpu", ",".join(map(str, cpus)))
-    check_picture(checks.written(words, data), timeline, (begin, end), cpus)
-    check_stretch_table(checks.written((*words, "--table"), data), timeline, (begin, end), cpus)
+    picture, table = checks.written(words, data), checks.written((*words, "--table"), data)
+    check_picture(picture, timeline, (begin, end), cpus)
+    check_stretch_table(table, timeline, (begin, end), cpus)
+    figures = checks.written(("--stats", *words[4:]), data)
+    check_page(checks.written((*words, "--html"), data), timeline, picture, table, figures, (begin, end), cpus)
     check_trace(checks.written((*words, "--perfetto"), data), timeline, (begin, end), cpus)
     check_task_picture(checks.written((*words[:4], "--rows=tasks"), data), timeline, (begin, end))
 
@@ -188,6 +205,17 @@ def check_edges(checks):
         expect("the load at first", (loads[0]["ts"], loads[0]["args"]), (begin / 1000, {"load": 2048}))
 
 
+def check_hostile_name(checks, name):
+    """The name of a file is told as it is, and is no part of the page but a text."""
+    data = (TOP / "examples/pull.toml").read_bytes()
+    others = [checks.written(words, data) for words in ((), ("--table",), ("--stats",))]
+    with tempfile.TemporaryDirectory() as folder:
+        file = Path(folder, name)
+        file.parent.mkdir(parents=True, exist_ok=True)
+        file.write_bytes(data)
+        check_whole(checks.written(("--html", str(file)), b""), *others, str(file))
+
+
 def check_late_wake(checks):
     """Nothing that a wake brings about is drawn before what its sender had done by then."""
     data = made.late_wake()
@@ -222,6 +250,9 @@ def check_made(checks):
                         ("a task alone of each level", check_alone), ("30 tasks", check_crowd), ("3000 stretches", check_dense)):
         checks.attempt(name, check, checks)
     checks.attempt("an empty machine", check_script, checks, made.empty())
+    for name in HOSTILE_NAMES:
+        checks.attempt(f"a file named {name}", check_hostile_name, checks, name)
+    check_in_browser(checks)
     checks.attempt(f"{COMPARED} deeds", check_script, checks, made.longest(COMPARED))
 
 

@@ -11,6 +11,7 @@ import made
 from events import check_trace
 from figures import check_json, check_sums
 from model import Timeline
+from pages import MOST_LISTED, check_whole
 from pictured import check_picture
 from plain.workload import read_workload
 from program import text_of
@@ -21,6 +22,8 @@ SECONDS, BYTES = 5, 1 << 30
 
 # What the pictures of the longest and of the fullest workload have at most, in bytes.
 MOST_LONGEST, MOST_FULLEST = 450_000, 600_000
+# And the page of the longest one.
+MOST_PAGE = 3_000_000
 
 
 def within_bounds(checks, words, data):
@@ -68,6 +71,15 @@ def check_longest_table(checks, data):
     times = [int(line.split()[0]) for line in within_bounds(checks, ("--table",), data).splitlines()[1:]]
     if times != sorted(times) or len(times) < 100000:
         raise Wrong(f"a table of {len(times)} stretches")
+
+
+def check_longest_page(checks, data):
+    """It tells of the first 5000 stretches, and says so."""
+    words = [("--html",), (), ("--table",), ("--stats",)]
+    text, *others = [within_bounds(checks, more, data) for more in words]
+    if len(text) > MOST_PAGE:
+        raise Wrong(f"{len(text)} bytes")
+    expect("how many stretches are told", len(check_whole(text, *others).data()["stretches"]), MOST_LISTED)
 
 
 def check_longest_figures(checks, data):
@@ -127,5 +139,6 @@ def check_large(checks):
     data = made.longest()
     checks.attempt("64 CPUs and 1024 tasks", check_widest, checks)
     checks.attempt("a full picture", check_fullest, checks)
-    for check in (check_longest_picture, check_longest_trace, check_longest_table, check_longest_figures, check_part_of_longest, check_terminal):
+    for check in (check_longest_picture, check_longest_trace, check_longest_table, check_longest_page, check_longest_figures,
+                  check_part_of_longest, check_terminal):
         checks.attempt(f"640000 deeds: {check.__name__}", check, checks, data)

@@ -100,6 +100,8 @@ class Timeline:
         # of each deed the task that it concerns, or None, and the lag of that after it, where it is on the deed's CPU or fell asleep
         self.concerned = []
         self.lags_after = []
+        # of each deed the lag of whoever ran on its CPU before it, or None
+        self.lags_before = []
         # the time of the last look at each CPU
         self.looked = {}
         for cpu in range(setup.cpus()):
@@ -150,6 +152,7 @@ class Timeline:
         begin, other = self.begin_of(cpu, deed), self.other_of(cpu, deed)
         running = self.queues[cpu].running
         before = self.state(cpu)
+        self.lags_before.append(dict(before[1]).get(running))
         answer = whole(self.setup, self.queues, cpu, deed)
         if answer != FINDS.get(deed[0], answer):
             begin = max(self.clocks[cpu], other)

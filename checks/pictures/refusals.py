@@ -14,11 +14,12 @@ sys.path.append(str(TOP / "checks/hostile"))
 
 from documents import DOCUMENTS
 
-USAGE = (b"usage: eevdf_timeline [--replay|--run] [--perfetto|--table|--stats [--json]] [--rows cpus|tasks] [--from NS] [--to NS] [--cpu N,..]"
-         b" [--task N,..] [FILE]\n")
-BAD_WORDS = ("--replay --run", "--perfetto --stats", "--table --stats", "--table --perfetto", "--table --json", "--rows", "--rows task",
-             "--rows tasks --table", "--json", "--perfetto --json", "--stats --from 1", "--stats --to 5", "--from 5 --to 5",
-             "--from x", "--from -1", "--to", "--cpu 64", "--cpu 0,", "--task 1024", "--task 0;1", "--task", "solo", "--helps", "help",
+USAGE = (b"usage: eevdf_timeline [--replay|--run] [--html|--perfetto|--table|--stats [--json]] [--rows cpus|tasks] [--from NS] [--to NS]"
+         b" [--cpu N,..] [--task N,..] [FILE]\n")
+BAD_WORDS = ("--replay --run", "--perfetto --stats", "--table --stats", "--table --perfetto", "--table --json", "--html --table",
+             "--html --perfetto", "--html --stats", "--html --json", "--html --html", "--html --rows", "--rows", "--rows task",
+             "--rows tasks --table", "--json", "--perfetto --json", "--stats --from 1", "--stats --to 5", "--from 5 --to 5", "--from x",
+             "--from -1", "--to", "--cpu 64", "--cpu 0,", "--task 1024", "--task 0;1", "--task", "solo", "--helps", "help",
              "--replay --replay", "--to 18446744073709551616")
 
 # The address space in which hostile texts are read, and which of them are sent.
@@ -61,7 +62,7 @@ def check_refusals(checks):
     for words in BAD_WORDS:
         checks.attempt(f"the words {words}", check_refused, checks, words.split(), made.empty(), USAGE, 2)
     for path, data, command in stored_workloads("checks/cases/*/*.toml"):
-        for words in () if is_well(path) else ((), ("--perfetto",), ("--stats",)):
+        for words in () if is_well(path) else ((), ("--html",), ("--perfetto",), ("--stats",)):
             checks.attempt(f"{path.name} {words}", check_workload_refused, checks, command, words, data)
     for text in DOCUMENTS:
         if text.name in HOSTILE:

@@ -6,6 +6,7 @@ use crate::figures::{Figures, counts_of, figures_of, json_of, table_of};
 use crate::history::history_of;
 use crate::lags::lags_of;
 use crate::moments::Moment;
+use crate::page::page_of;
 use crate::picture::picture_of;
 use crate::progress::Progress;
 use crate::scale::Scale;
@@ -107,7 +108,7 @@ impl Schedule<'_> {
             Output::Table => self.listed(alloc),
             Output::Figures => table_of(alloc, &self.counted(alloc)?),
             Output::Json => json_of(alloc, &self.counted(alloc)?),
-            Output::Picture | Output::Trace => self.drawn(alloc),
+            Output::Picture | Output::Page | Output::Trace => self.drawn(alloc),
         }
     }
 
@@ -144,6 +145,7 @@ impl Schedule<'_> {
         };
         match words.output {
             Output::Trace => trace_of(alloc, &scene),
+            Output::Page => page_of(alloc, &scene, &table_of(alloc, &self.counted(alloc)?)?),
             _ => picture_of(alloc, &scene),
         }
     }

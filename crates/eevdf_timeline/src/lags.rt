@@ -57,9 +57,11 @@ pub struct After {
 pub struct Lags {
     pub curves: Vec<Curve>,
     pub loads: Vec<Load>,
-    /// Of each deed, where a trace is written.
+    /// Of each deed, where a trace or a page is written.
     pub after: Vec<After>,
-    keeps_all: bool,
+    /// Of each deed the lag of whoever ran on its CPU before it, where a page is written.
+    pub before: Vec<Option<i64>>,
+    output: Output,
     last_loads: Vec<u64>,
     // when each CPU was looked at last
     looked: Vec<Option<u64>>,
@@ -103,7 +105,8 @@ impl Lags {
             curves,
             loads: Vec::new(alloc),
             after: Vec::new(alloc),
-            keeps_all: words.output == Output::Trace,
+            before: Vec::new(alloc),
+            output: words.output,
             last_loads: vec![in alloc; 0; setup.cpus()]?,
             looked: vec![in alloc; None; setup.cpus()]?,
         })
@@ -143,14 +146,23 @@ impl Lags {
         if self.looked.get(cpu.index()).copied().flatten() != Some(moment.begin) {
             self.look(solo, cpu, moment.begin, scale)?;
         }
+        self.note_before(solo, cpu)?;
         let running = running_on(solo, cpu);
         do_again(solo, &moment.line);
-        if self.keeps_all {
+        if self.output == Output::Page || self.output == Output::Trace {
             self.after.push(after_of(solo, moment, running))?;
         }
         self.look(solo, cpu, moment.end, scale)?;
         if let Deed::Pull { source, .. } = moment.line.deed {
             self.look(solo, source, moment.other, scale)?;
+        }
+        Ok(())
+    }
+
+    /// Notes the lag of whoever runs on the CPU of a deed before it, for a page.
+    fn note_before(&mut self, solo: &Solo, cpu: CpuId) -> Result<(), AllocError> {
+        if self.output == Output::Page {
+            self.before.push(lag_of_running(solo, cpu))?;
         }
         Ok(())
     }
@@ -257,6 +269,16 @@ impl Curve {
 fn running_on(solo: &Solo, cpu: CpuId) -> Option<TaskId> {
     if solo.has_cpu(cpu) {
         solo.queue(cpu).running()
+    } else {
+        None
+    }
+}
+
+/// The lag of the task that runs on a CPU.
+fn lag_of_running(solo: &Solo, cpu: CpuId) -> Option<i64> {
+    let task = running_on(solo, cpu)?;
+    if solo.has_cpu(cpu) {
+        solo.queue(cpu).lag_of(task)
     } else {
         None
     }

@@ -1,9 +1,9 @@
 //! `eevdf_timeline` reads a workload from a file or from standard input, as `eevdf` does, and draws what the scheduler answered: a picture
-//! (SVG), a trace (Trace Event JSON), a table of what ran when, or a table of figures.
+//! (SVG), a page with it (HTML), a trace (Trace Event JSON), a table of what ran when, or a table of figures.
 //!
 //! `history` comes to the lines that the proved calls answer, and `moments` gives each its time; all that is written is made of these.
-//! `picture` and `trace` draw a `scene` of them, `figures` counts them. `lags` and `figures::counts` do the same deeds once more on a
-//! machine of their own, and look at its queues between them.
+//! `picture`, `page` and `trace` draw a `scene` of them, `figures` counts them. `lags` and `figures::counts` do the same deeds once more on
+//! a machine of their own, and look at its queues between them.
 #![tactic(auto)]
 
 mod drawing;
@@ -14,6 +14,7 @@ mod lags;
 mod lists;
 mod marks;
 mod moments;
+mod page;
 mod picture;
 mod progress;
 mod scale;
@@ -72,11 +73,11 @@ fn answer<R: Env + AllocGlobal + Files + Input + Print + Threads + Wait + Sync>(
 ) -> Result<u8, u8> {
     let mut words = TEXTS.words(rt, errors, errors, alloc)?;
     let file = take_file(&mut words, 1, &WITH_VALUE);
-    let asked = words_of(alloc, words.as_slice()).map_err(|fault| {
+    let name = named_file(&file);
+    let asked = words_of(alloc, words.as_slice(), name).map_err(|fault| {
         let unknown = unknown_word(alloc, &words, file.is_some()).ok();
         TEXTS.refuse(errors, errors, fault, unknown)
     })?;
-    let name = named_file(&file);
     Ok(match name {
         Some(path) => {
             let opened = TEXTS.open(rt, errors, errors, alloc, path)?;

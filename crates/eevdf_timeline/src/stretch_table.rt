@@ -15,25 +15,46 @@ pub(crate) fn stretch_table_of(
     scale: &Scale,
     words: &Words,
 ) -> Result<Vec<u8>, AllocError> {
-    let mut chosen = Vec::new(alloc);
-    for stretch in stretches {
-        if stretch.is_chosen(scale, words) {
-            chosen.push(*stretch)?;
-        }
-    }
-    chosen.sort_by_key(|stretch| stretch.begin)?;
     let mut text = String::from_str(alloc, HEAD)?;
-    for stretch in &chosen {
-        push_stretch(alloc, &mut text, stretch)?;
+    for place in chosen_places(alloc, stretches, scale, words)?.iter() {
+        if let Some(stretch) = stretches.get(*place) {
+            push_stretch(alloc, &mut text, stretch)?;
+        }
     }
     Ok(text.into_bytes())
 }
 
+/// The places of the chosen stretches, in order of time.
+pub(crate) fn chosen_places(
+    alloc: Global,
+    stretches: &[Stretch],
+    scale: &Scale,
+    words: &Words,
+) -> Result<Vec<usize>, AllocError> {
+    let mut begins = Vec::new(alloc);
+    for (place, stretch) in stretches.iter().enumerate() {
+        if stretch.is_chosen(scale, words) {
+            begins.push((stretch.begin, place))?;
+        }
+    }
+    begins.sort()?;
+    let mut places = Vec::with_capacity(alloc, begins.len())?;
+    for (_begin, place) in &begins {
+        places.push(*place)?;
+    }
+    Ok(places)
+}
+
+/// The nanoseconds from the wake before a stretch, or `-` where the task has run since.
+pub(crate) fn delay_of(alloc: Global, stretch: &Stretch) -> Result<String, AllocError> {
+    match stretch.delay {
+        None => String::from_str(alloc, "-"),
+        Some(delay) => format!(in alloc; "{delay}"),
+    }
+}
+
 fn push_stretch(alloc: Global, text: &mut String, stretch: &Stretch) -> Result<(), AllocError> {
-    let delay = match stretch.delay {
-        None => String::from_str(alloc, "-")?,
-        Some(delay) => format!(in alloc; "{delay}")?,
-    };
+    let delay = delay_of(alloc, stretch)?;
     let ran = stretch.end.saturating_sub(stretch.begin);
     let why = stretch.stop.word();
     write!(

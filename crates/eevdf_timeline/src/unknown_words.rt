@@ -6,9 +6,10 @@ use eevdf_ops::CpuId;
 use eevdf_queue::TaskId;
 use std::alloc::{AllocError, Global};
 
-const FLAGS: [&str; 6] = [
+const FLAGS: [&str; 7] = [
     "--replay",
     "--run",
+    "--html",
     "--perfetto",
     "--table",
     "--stats",
@@ -120,6 +121,10 @@ fn together(alloc: Global, words: &[String]) -> Result<String, AllocError> {
     let has = |flag: &str| words.iter().any(|word| is_flag(word.as_str(), flag));
     let text = if has("--replay") && has("--run") {
         "--replay and --run exclude each other\n"
+    } else if has("--html")
+        && (has("--perfetto") || has("--table") || has("--stats") || has("--json"))
+    {
+        "--html excludes --perfetto, --table, --stats and --json\n"
     } else if has("--perfetto") && (has("--stats") || has("--json")) {
         "--perfetto excludes --stats and --json\n"
     } else if has("--table") && (has("--perfetto") || has("--stats") || has("--json")) {

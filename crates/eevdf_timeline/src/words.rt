@@ -12,6 +12,8 @@ use std::convert::AsStr;
 pub enum Output {
     /// A picture, as SVG.
     Picture,
+    /// A page with the picture, the table and the figures, as HTML.
+    Page,
     /// A trace, as Trace Event JSON.
     Trace,
     /// A line for each stretch, as text in columns.
@@ -85,15 +87,34 @@ pub struct Words {
     pub to: Option<u64>,
     pub cpus: Choice,
     pub tasks: Choice,
+    /// The name of the file that is read, where it isn't standard input.
+    pub file: Option<String>,
 }
 
-/// Reads the program's words, of which the first is the program's name.
-pub(crate) fn words_of<S: AsStr>(alloc: Global, words: &[S]) -> Result<Words, WordFault> {
+impl Words {
+    pub(crate) fn file_name(&self) -> Option<&str> {
+        match &self.file {
+            Some(name) => Some(name.as_str()),
+            None => None,
+        }
+    }
+}
+
+/// Reads the program's words but for the file that they name. The first is the program's name.
+pub(crate) fn words_of<S: AsStr>(
+    alloc: Global,
+    words: &[S],
+    file: Option<&str>,
+) -> Result<Words, WordFault> {
     let matches = program(alloc)?.try_get_matches_from(words)?;
-    asked_by(alloc, &matches)
+    asked_by(alloc, &matches, file)
 }
 
-fn asked_by(alloc: Global, matches: &ArgMatches<'_>) -> Result<Words, WordFault> {
+fn asked_by(
+    alloc: Global,
+    matches: &ArgMatches<'_>,
+    file: Option<&str>,
+) -> Result<Words, WordFault> {
     let source = source_of(matches.get_flag("replay"), matches.get_flag("run"))?;
     let output = output_of(matches)?;
     let by_task = is_by_task(output, matches.get_str("rows"))?;
@@ -110,6 +131,10 @@ fn asked_by(alloc: Global, matches: &ArgMatches<'_>) -> Result<Words, WordFault>
         to,
         cpus: Choice { chosen: cpus },
         tasks: Choice { chosen: tasks },
+        file: match file {
+            Some(name) => Some(String::from_str(alloc, name)?),
+            None => None,
+        },
     })
 }
 
@@ -124,28 +149,31 @@ fn source_of(replay: bool, run: bool) -> Result<Kind, WordFault> {
 
 fn output_of(matches: &ArgMatches<'_>) -> Result<Output, WordFault> {
     match (
+        matches.get_flag("html"),
         matches.get_flag("perfetto"),
         matches.get_flag("table"),
         matches.get_flag("stats"),
         matches.get_flag("json"),
     ) {
-        (false, false, false, false) => Ok(Output::Picture),
-        (true, false, false, false) => Ok(Output::Trace),
-        (false, true, false, false) => Ok(Output::Table),
-        (false, false, true, false) => Ok(Output::Figures),
-        (false, false, true, true) => Ok(Output::Json),
+        (false, false, false, false, false) => Ok(Output::Picture),
+        (true, false, false, false, false) => Ok(Output::Page),
+        (false, true, false, false, false) => Ok(Output::Trace),
+        (false, false, true, false, false) => Ok(Output::Table),
+        (false, false, false, true, false) => Ok(Output::Figures),
+        (false, false, false, true, true) => Ok(Output::Json),
         _ => Err(WordFault::Words),
     }
 }
 
-/// Rows are chosen of a picture alone.
+/// Rows are chosen of a picture alone, that of a page too.
 fn is_by_task(output: Output, value: Option<&str>) -> Result<bool, WordFault> {
     let Some(word) = value else {
         return Ok(false);
     };
-    if output == Output::Picture && word == "tasks" {
+    let has_picture = output == Output::Picture || output == Output::Page;
+    if has_picture && word == "tasks" {
         Ok(true)
-    } else if output == Output::Picture && word == "cpus" {
+    } else if has_picture && word == "cpus" {
         Ok(false)
     } else {
         Err(WordFault::Words)
@@ -207,6 +235,7 @@ fn program<'a>(alloc: Global) -> Result<Command<'a>, AllocError> {
         .disable_help_subcommand(true);
     let source = bare.arg(flag(alloc, "replay"))?.arg(flag(alloc, "run"))?;
     let output = source
+        .arg(flag(alloc, "html"))?
         .arg(flag(alloc, "perfetto"))?
         .arg(flag(alloc, "table"))?
         .arg(flag(alloc, "stats"))?

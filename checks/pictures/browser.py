@@ -1,0 +1,117 @@
+"""What a page does in a browser, where there is one: driven.js points, zooms, moves and searches as a user does."""
+
+import html
+import json
+import re
+import shutil
+import tempfile
+from pathlib import Path
+
+import made
+from runner import run
+from svg import Wrong, expect
+
+HERE = Path(__file__).resolve().parent
+
+# The edges of the lanes, in units of the picture, and how far a place may be from where it has to be.
+LEFT, WIDTH, NEAR = 90, 890, 0.11
+
+# How many seconds the browser has.
+PATIENCE = 240
+
+# Of dark pages and light ones: the word that the browser takes, and the ground.
+GROUNDS = {"light": (1, "rgb(255, 255, 255)"), "dark": (0, "rgb(22, 22, 22)")}
+
+
+def driven(chromium, page, ground):
+    """What came of it in a browser that wants such a ground."""
+    script = f"<script>{(HERE / 'driven.js').read_text()}</script></body>".encode()
+    with tempfile.TemporaryDirectory() as folder:
+        file = Path(folder, "page.html")
+        file.write_bytes(page.replace(b"</body>", script))
+        words = [chromium, "--headless", "--no-sandbox", "--disable-gpu", f"--user-data-dir={folder}/profile", "--window-size=1100,1500",
+                 "--virtual-time-budget=10000", f"--blink-settings=preferredColorScheme={GROUNDS[ground][0]}", "--dump-dom", file.as_uri()]
+        printed = run(words, seconds=PATIENCE)
+    found = re.search(r'<pre id="result">(.*?)</pre>', printed.out.decode(), re.DOTALL)
+    if printed.status or not found:
+        raise Wrong(f"status {printed.status}: {printed.errors.decode(errors='replace')[-1000:]}")
+    return json.loads(html.unescape(found[1]))
+
+
+def check_places(what, seen):
+    """Each box that is shown shares time with what is seen, and stands where its times are, cut at the edges."""
+    first, last = seen["from"], seen["to"]
+    for box in seen["boxes"]:
+        left, right = (LEFT + WIDTH * (min(max(time, first), last) - first) / (last - first) for time in (box["begin"], box["end"]))
+        if not (box["begin"] < last and first < box["end"]) or abs(box["left"] - left) > NEAR or abs(box["width"] - right + left) > NEAR:
+            raise Wrong(f"{what}: {box} from {first} to {last}")
+
+
+def check_facts(what, facts, stretch):
+    """What is told is that of a stretch of the data."""
+    woken = f"from CPU {stretch['woken_from']}, {stretch['delay_ns']} ns before" if "woken_from" in stretch else "not since it ran last"
+    expect(what, facts, {
+        "task": f"task {stretch['task']} on CPU {stretch['cpu']}",
+        "time": f"from {stretch['begin_ns']} ns to {stretch['end_ns']} ns: {stretch['end_ns'] - stretch['begin_ns']} ns",
+        "last deed": f"{stretch['deed']}, of {stretch['ticks']} tick{'s' * (stretch['ticks'] != 1)}",
+        "answer": stretch["answer"], "lag before": f"{stretch['lag_before']} ns of virtual time",
+        "lag after": f"{stretch['lag_after']} ns of virtual time", "woken": woken, "waited": f"{stretch['waited_ns']} ns",
+        "ended by": stretch["why"]})
+
+
+def at(stretches, cpu, time):
+    return next(stretch for stretch in stretches if stretch["cpu"] == cpu and stretch["begin_ns"] <= time < stretch["end_ns"])
+
+
+def check_search(sought, stretches):
+    of_task = [place for place, stretch in enumerate(stretches) if stretch["task"] == 4]
+    for answer in sought[:2]:
+        expect("the lines of task 4", (answer["rows"], answer["found"]), (of_task, f"{len(of_task)} listed of task 4"))
+        expect("whose boxes are bright", set(answer["bright"]), {4})
+    for answer, found in zip(sought[2:], ("no task: 0 to 8 are known", "")):
+        expect("all lines again", (len(answer["rows"]), answer["found"]), (len(stretches), found))
+
+
+def check_driven(chromium, page, ground):
+    said = driven(chromium, page, ground)
+    stretches = json.loads(re.search(rb'id="data">(.*?)</script>', page, re.DOTALL)[1])["stretches"]
+    expect("errors", said["errors"], [])
+    expect("whether it is dark", (said["dark"], said["grounds"]), (ground == "dark", [GROUNDS[ground][1]] * 2))
+    for what in ("whole", "zoomed", "moved", "back"):
+        check_places(what, said[what])
+    pointed, zoomed, whole = said["pointed"], said["zoomed"], said["whole"]
+    expect("what is under the pointer", pointed["isBox"], True)
+    check_facts("the stretch under the pointer", pointed["facts"], at(stretches, pointed["cpu"], pointed["time"]))
+    if abs(zoomed["time"] - pointed["time"]) > 1 or not 15 < (whole["to"] - whole["from"]) / (zoomed["to"] - zoomed["from"]) < 21:
+        raise Wrong(f"the wheel zooms from {whole['from']}..{whole['to']} to {zoomed['from']}..{zoomed['to']} at {pointed['time']}")
+    shown = sorted((box["cpu"], box["begin"]) for box in zoomed["boxes"] if not box["isCoarse"])
+    wanted = sorted((one["cpu"], one["begin_ns"]) for one in stretches if one["begin_ns"] < zoomed["to"] and zoomed["from"] < one["end_ns"])
+    expect("the stretches that are seen", shown, wanted)
+    moved = said["moved"]["from"] - zoomed["from"]
+    if abs(moved - (zoomed["to"] - zoomed["from"]) / 10) > 1:
+        raise Wrong(f"moved by {moved}")
+    check_search(said["sought"], stretches)
+    expect("how it is again", said["back"], whole)
+    check_keys(said, whole, stretches)
+
+
+def check_keys(said, whole, stretches):
+    """Half of the middle, and half of that; a quarter of it on; and twice as much."""
+    length = whole["to"] - whole["from"]
+    begin = whole["from"] + length * 3 / 8 + length / 16 - length / 8
+    if abs(said["keyed"]["from"] - begin) > 1 or abs(said["keyed"]["to"] - begin - length / 2) > 1:
+        raise Wrong(f"after the keys {said['keyed']} of {whole['from']}..{whole['to']}")
+    box = whole["boxes"][1]
+    expect("which box has the focus", said["focused"]["at"], 1)
+    check_facts("the stretch that has the focus", said["focused"]["facts"], at(stretches, box["cpu"], box["begin"]))
+    check_facts("the line that has the focus", said["row"], stretches[2])
+
+
+def check_in_browser(checks):
+    chromium = shutil.which("chromium")
+    if not chromium:
+        checks.skip("pages in a browser", "chromium", "chromium")
+        return
+    page = checks.written(("--html",), made.dense())
+    for ground in GROUNDS:
+        checks.attempt(f"a {ground} page in a browser", check_driven, chromium, page, ground)

@@ -1,0 +1,92 @@
+//! The page of a schedule, as HTML: the picture, the table and the figures, with a script that tells what the pointer is at.
+
+mod data;
+mod details;
+mod escape;
+mod head;
+mod notes;
+mod script;
+mod table;
+
+use crate::page::data::data_of;
+use crate::page::escape::html_of;
+use crate::page::head::{AFTER_DATA, AFTER_TITLE, BEFORE_DATA, BEFORE_TITLE, END, KEYS, PICTURE};
+use crate::page::notes::push_notes;
+use crate::page::script::SCRIPT;
+use crate::page::table::push_table;
+use crate::picture::picture_of;
+use crate::scene::Scene;
+use crate::stretch_table::chosen_places;
+use std::alloc::{AllocError, Global};
+
+/// So many stretches are told and listed at most: the first of those that are chosen.
+const MOST_LISTED: usize = 5000;
+
+/// The page of a scene with these figures.
+pub(crate) fn page_of(
+    alloc: Global,
+    scene: &Scene<'_>,
+    figures: &[u8],
+) -> Result<Vec<u8>, AllocError> {
+    let mut places = chosen_places(alloc, &scene.turns.stretches, &scene.scale, scene.words)?;
+    let left_out = places.len().saturating_sub(MOST_LISTED);
+    places.truncate(MOST_LISTED);
+    let mut page = Vec::new(alloc);
+    page.extend_from_slice(&head_of(alloc, scene.words.file_name())?)?;
+    page.extend_from_slice(&picture_of(alloc, scene)?)?;
+    page.extend_from_slice(lists_of(alloc, scene, &places, left_out)?.as_bytes())?;
+    page.extend_from_slice(figures)?;
+    page.extend_from_slice(b"</pre></div>\n")?;
+    page.extend_from_slice(BEFORE_DATA.as_bytes())?;
+    page.extend_from_slice(&data_of(alloc, scene, &places, left_out)?)?;
+    page.extend_from_slice(AFTER_DATA.as_bytes())?;
+    page.extend_from_slice(SCRIPT.as_bytes())?;
+    page.extend_from_slice(END.as_bytes())?;
+    Ok(page)
+}
+
+/// What stands before the picture.
+fn head_of(alloc: Global, file: Option<&str>) -> Result<Vec<u8>, AllocError> {
+    let title = title_of(alloc, file)?;
+    let mut text = Vec::new(alloc);
+    text.extend_from_slice(BEFORE_TITLE.as_bytes())?;
+    text.extend_from_slice(&title)?;
+    text.extend_from_slice(AFTER_TITLE.as_bytes())?;
+    text.extend_from_slice(b"<h1>")?;
+    text.extend_from_slice(&title)?;
+    text.extend_from_slice(b"</h1>\n")?;
+    text.extend_from_slice(KEYS.as_bytes())?;
+    text.extend_from_slice(PICTURE.as_bytes())?;
+    Ok(text)
+}
+
+fn title_of(alloc: Global, file: Option<&str>) -> Result<Vec<u8>, AllocError> {
+    let mut title = Vec::new(alloc);
+    match file {
+        None => title.extend_from_slice(b"A schedule")?,
+        Some(file) => {
+            title.extend_from_slice(b"The schedule of ")?;
+            title.extend_from_slice(&html_of(alloc, file.as_bytes())?)?;
+        }
+    }
+    Ok(title)
+}
+
+/// What stands between the picture and the figures.
+fn lists_of(
+    alloc: Global,
+    scene: &Scene<'_>,
+    places: &[usize],
+    left_out: usize,
+) -> Result<String, AllocError> {
+    let mut text = String::from_str(
+        alloc,
+        "</section>\n<dl id=\"told\" aria-live=\"polite\"><dt>nothing is told yet</dt></dl>\n",
+    )?;
+    text.push_str("<h2>What is left out</h2>\n")?;
+    push_notes(&mut text, scene, places.len(), left_out)?;
+    text.push_str("<h2>The stretches</h2>\n")?;
+    push_table(alloc, &mut text, &scene.turns.stretches, places)?;
+    text.push_str("<h2>The figures</h2>\n<div class=\"wide\"><pre id=\"figures\">")?;
+    Ok(text)
+}
