@@ -49,11 +49,11 @@
  *
  * SEVERAL CPUS. eevdf_pick and eevdf_run make who ran before a task that another CPU may take, and
  * eevdf_sleep makes it one that can be woken, while its CPU is still on its stack. So hold the
- * queue's lock until the switch has saved it; or keep a flag that it is on a CPU, which the switch clears and
- * whoever runs it elsewhere awaits. A wake is done on the queue where the task sleeps, so keep with
- * each task which queue that is. A wake that comes before the sleep is answered PRESENT and leaves
- * nothing here: the caller remembers it, and lets the task not sleep. docs/embedding-c.md has these
- * rules, and when to pull; examples/c/four_cpus.c keeps them.
+ * queue's lock until the switch has saved it; or keep a flag that it is on a CPU, which the switch
+ * clears and whoever runs it elsewhere awaits. A wake is done on the queue where the task sleeps,
+ * so keep with each task which queue that is. A wake that comes before the sleep is answered
+ * PRESENT and leaves nothing here: the caller remembers it, and lets the task not sleep.
+ * docs/embedding-c.md has these rules, and when to pull; examples/c/four_cpus.c keeps them.
  *
  * INTERRUPTS. "Interrupts: yes" says that a handler may make the call, where what it interrupts
  * can't hold the queue's lock nor be in a call on the same hand: take the lock with interrupts off.
@@ -233,9 +233,9 @@ typedef struct eevdf_memory {
 /*
  * The two functions for memory, which the caller defines, or takes over malloc and free from
  * libeevdf_malloc.a. The library asks for one block in eevdf_admit, of EEVDF_TASK_SIZE bytes
- * aligned to 8, and gives one back where a task ends. That need not be this task's: tasks of a queue
- * change places in their blocks. A block belongs to the library until it is given back itself, so
- * one inside the caller's own struct of a task will do where that struct stays as long.
+ * aligned to 8, and gives one back where a task ends. That need not be this task's: tasks of a
+ * queue change places in their blocks. A block belongs to the library until it is given back
+ * itself, so one inside the caller's own struct of a task will do where that struct stays as long.
  * eevdf_alloc is called by eevdf_admit alone, and eevdf_dealloc by eevdf_end, eevdf_close,
  * eevdf_hand_close, and eevdf_admit where it answers RANGE. They are called under whatever lock the
  * caller of these holds, of eevdf_hand_close perhaps none, and where there are several queues, on
