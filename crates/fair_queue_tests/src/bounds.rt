@@ -3,6 +3,23 @@
 use crate::kits::{admit, lateness, ns, task};
 use eevdf_fair_queue::{Bounds, FairQueue};
 use eevdf_weight::{Nice, Slice};
+use std::alloc::Global;
+use std::process::Abort;
+
+/// Makes a task of nice 0 runnable.
+fn join(rt: &impl Abort, alloc: Global, queue: &mut FairQueue, number: u64, slice: Slice) {
+    admit(rt, alloc, queue, task(rt, number), Nice::default(), slice);
+}
+
+/// A queue in which task 0 has run for 1 ms of its 3 ms, as task 1 came, which is due before it.
+fn with_one_before_the_pick(rt: &impl Abort, alloc: Global) -> FairQueue {
+    let mut queue = FairQueue::open();
+    join(rt, alloc, &mut queue, 0, Slice::default());
+    queue.pick();
+    queue.tick(ns(rt, 1_000_000));
+    join(rt, alloc, &mut queue, 1, Slice::MIN);
+    queue
+}
 
 /// Nothing is late where nothing is runnable.
 #[test]
@@ -20,22 +37,8 @@ fn an_empty_queue_has_no_late_request(rt: HostRuntime) {
 fn a_long_turn_is_the_bound(rt: HostRuntime) {
     let rt = &rt;
     let mut queue = FairQueue::open();
-    admit(
-        rt,
-        rt.alloc(),
-        &mut queue,
-        task(rt, 0),
-        Nice::default(),
-        Slice::default(),
-    );
-    admit(
-        rt,
-        rt.alloc(),
-        &mut queue,
-        task(rt, 1),
-        Nice::default(),
-        Slice::default(),
-    );
+    join(rt, rt.alloc(), &mut queue, 0, Slice::default());
+    join(rt, rt.alloc(), &mut queue, 1, Slice::default());
     assert_eq!(rt; queue.pick(), Some(task(rt, 0)));
     queue.tick(ns(rt, 4_000_000));
     queue.tick(ns(rt, 6_000_000));
@@ -65,27 +68,7 @@ fn a_long_turn_is_the_bound(rt: HostRuntime) {
 #[test]
 fn one_that_comes_before_the_pick_moves_the_front(rt: HostRuntime) {
     let rt = &rt;
-    let mut queue = FairQueue::open();
-    let short = Slice::new(100_000).expect(rt, "slice");
-    admit(
-        rt,
-        rt.alloc(),
-        &mut queue,
-        task(rt, 0),
-        Nice::default(),
-        Slice::default(),
-    );
-    queue.pick();
-    queue.tick(ns(rt, 1_000_000));
-    assert_eq!(rt; queue.bounds().longest, 1_000_000);
-    admit(
-        rt,
-        rt.alloc(),
-        &mut queue,
-        task(rt, 1),
-        Nice::default(),
-        short,
-    );
+    let mut queue = with_one_before_the_pick(rt, rt.alloc());
     assert_eq!(rt;
         queue.bounds(),
         Bounds {
@@ -104,26 +87,7 @@ fn one_that_comes_before_the_pick_moves_the_front(rt: HostRuntime) {
 #[test]
 fn a_queue_heals(rt: HostRuntime) {
     let rt = &rt;
-    let mut queue = FairQueue::open();
-    let short = Slice::new(100_000).expect(rt, "slice");
-    admit(
-        rt,
-        rt.alloc(),
-        &mut queue,
-        task(rt, 0),
-        Nice::default(),
-        Slice::default(),
-    );
-    queue.pick();
-    queue.tick(ns(rt, 1_000_000));
-    admit(
-        rt,
-        rt.alloc(),
-        &mut queue,
-        task(rt, 1),
-        Nice::default(),
-        short,
-    );
+    let mut queue = with_one_before_the_pick(rt, rt.alloc());
     assert_eq!(rt; queue.lateness_bound(), 3_000_000);
     for _turn in 0..10 {
         queue.pick();
