@@ -1,8 +1,9 @@
 -- How late a request is.
-use Rattle.std.specs.Prelude.{◌≡◌, ℕ, ℤ, ◌+ℤ◌, Some}
-use Rattle.std.specs.FinMap.{get}
-use Rattle.eevdf_queue.specs.{declared.entry.Entry.Entry, State.State}
+use Rattle.std.specs.Prelude.{◌≡◌, ℕ, ℤ, pos, ◌+ℤ◌, Option, Some, None}
+use Rattle.std.specs.{FinMap.get, Int.int_min, Option.option_and_then}
+use Rattle.eevdf_queue.specs.{declared.entry.Entry.Entry, State.State, Sums.virtual_time, Pick.pick_of}
 use Rattle.eevdf_dozes.specs.Punctual.{IsTimeWithin}
+use Rattle.eevdf_fair_queue.specs.{declared.bounds.Bounds.Bounds, Bounds.late_by}
 
 -- the exact virtual time is past the deadline of this task by no more than a number
 abbrev pub IsLateBy : State → ℕ → ℤ → Type 0
@@ -11,3 +12,12 @@ IsLateBy q task by = (e : Entry) → get q.runnable task ≡ Some e → IsTimeWi
 -- and past that of no runnable task
 abbrev pub NoneIsLaterThan : State → ℤ → Type 0
 NoneIsLaterThan q by = (task : ℕ) → IsLateBy q task by
+
+-- what is answered for all runnable tasks: the bound at the lesser one of a time and the pick's deadline, and 0 where there is no pick
+abbrev pub bound_by : Bounds → ℤ → Option Entry → ℤ
+bound_by b time None = pos 0
+bound_by b time (Some e) = late_by b (int_min time e.d)
+
+-- the time is the virtual time: no deadline is before the lesser one
+abbrev pub lateness_bound : State → Bounds → ℤ
+lateness_bound q b = bound_by b (virtual_time q) (option_and_then (get q.runnable) (pick_of q.runnable))

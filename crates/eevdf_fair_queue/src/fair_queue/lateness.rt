@@ -1,10 +1,10 @@
 //! How late a request can be.
 
-ghost use Rattle.std.specs.Prelude.{◌≡◌, ◌+ℤ◌, IfSome};
+ghost use Rattle.std.specs.Prelude.{◌≡◌, IfSome};
 ghost use Rattle.std.specs.Option.{option_map};
 ghost use Rattle.std.specs.FinMap as map;
 ghost use Rattle.eevdf_fair_queue.specs.Bounds as bounds;
-ghost use Rattle.eevdf_fair_queue.specs.Lateness.{IsLateBy, NoneIsLaterThan};
+ghost use Rattle.eevdf_fair_queue.specs.Lateness.{IsLateBy, NoneIsLaterThan, lateness_bound};
 
 use crate::bounds::lesser;
 use crate::fair_queue::FairQueue;
@@ -25,9 +25,11 @@ impl FairQueue {
         Some(self.bounds.late_by(entry.d))
     }
 
-    /// By how much the virtual time can be past the deadline of any runnable task, at most: in virtual time. 0 where nothing is runnable.
+    /// By how much the virtual time can be past the deadline of any runnable task, at most: in virtual time. It is reckoned at the lesser
+    /// one of the virtual time and the pick's deadline, before which no deadline is. 0 where nothing is runnable.
     pub fn lateness_bound(&self) -> i64
-        ensures { NoneIsLaterThan self.now.queue.state result }
+        ensures value { result ≡ lateness_bound self.now.queue.state self.now.bounds }
+        ensures late { NoneIsLaterThan self.now.queue.state result }
     {
         pick_is_first();
         pick_of_nobody();

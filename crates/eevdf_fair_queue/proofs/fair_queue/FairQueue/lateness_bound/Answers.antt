@@ -6,13 +6,13 @@ use Rattle.eevdf_fair_queue.specs.{Bounds.late_by, Fair.FairView, Lateness.NoneI
 use Rattle.eevdf_fair_queue.proofs.Late.{none_at_all, none_later}
 use Rattle.eevdf_fair_queue.proofs.fair_queue.FairQueue.lateness_bound.Goals as goal
 
-pub returns-in_default : goal.returns-in_default
-returns-in_default c =
+pub returns-in_default-clause-late : goal.returns-in_default-clause-late
+returns-in_default-clause-late c =
     subst (λ (v : FairView). NoneIsLaterThan v.queue.state (pos 0)) c.self.view_is
     (none_at_all c.pick_of_nobody.ensures c.self.inside.queue.state (sym c.peek.ensures.number ∙ c.in_default.is))
 
-pub returns : goal.returns
-returns c =
+pub returns-clause-late : goal.returns-clause-late
+returns-clause-late c =
     let q = c.self.inside.queue.state in
     let b = c.self.inside.bounds in
     let f = c.in-Some-entry.entry in
