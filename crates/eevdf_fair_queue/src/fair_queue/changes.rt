@@ -34,7 +34,6 @@ impl FairQueue {
         let task = parcel.task();
         let mark = self.mark(task);
         let result = self.queue.try_admit(parcel);
-        every_queue(&self.queue);
         self.bounds = self.bounds.settled(mark, self.queue.entry(task));
         result
     }
@@ -57,7 +56,6 @@ impl FairQueue {
         let task = parcel.task();
         let mark = self.mark(task);
         let result = self.queue.try_attach(parcel);
-        every_queue(&self.queue);
         self.bounds = self.bounds.settled(mark, self.queue.entry(task));
         result
     }
@@ -74,7 +72,6 @@ impl FairQueue {
         every_queue(&self.queue);
         let mark = self.mark(task);
         let answer = self.queue.wake(task);
-        every_queue(&self.queue);
         self.bounds = self.bounds.settled(mark, self.queue.entry(task));
         answer
     }
@@ -91,7 +88,6 @@ impl FairQueue {
         every_queue(&self.queue);
         let mark = self.mark(task);
         let answer = self.queue.renice(task, nice);
-        every_queue(&self.queue);
         self.bounds = self.bounds.settled(mark, self.queue.entry(task));
         answer
     }
@@ -108,7 +104,6 @@ impl FairQueue {
         every_queue(&self.queue);
         let mark = self.mark(task);
         let answer = self.queue.set(task, nice, slice);
-        every_queue(&self.queue);
         self.bounds = self.bounds.settled(mark, self.queue.entry(task));
         answer
     }
