@@ -1,6 +1,6 @@
 //! How far the runnable tasks of a queue can be past one another's deadlines.
 
-ghost use Rattle.std.specs.Prelude.{◌≡◌, pos};
+ghost use Rattle.std.specs.Prelude.{◌≡◌};
 ghost use Rattle.std.specs.Int.{int_max, int_min};
 ghost use Rattle.eevdf_fair_queue.specs.Bounds as bounds;
 

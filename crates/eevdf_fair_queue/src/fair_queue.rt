@@ -1,8 +1,6 @@
-ghost use Rattle.std.specs.Prelude.{◌≡◌, ◌↔◌, IfSome, IsNone, pos};
+ghost use Rattle.std.specs.Prelude.{◌≡◌};
 ghost use Rattle.std.specs.FinMap as map;
 ghost use Rattle.eevdf_queue.specs.State.{empty_state};
-ghost use Rattle.eevdf_queue.specs.Pick.{IsPick, after_pick, pick_of};
-ghost use Rattle.eevdf_queue.specs.Tick as ticks;
 ghost use Rattle.eevdf_fair_queue.specs.Bounds as bounds;
 ghost use Rattle.eevdf_fair_queue.specs.Fair.{IsFair, mark_of};
 

@@ -7,8 +7,8 @@ use Rattle.eevdf_queue.specs.{declared.entry.Entry.Entry, declared.sleeper.Sleep
 use Rattle.eevdf_queue.specs.{declared.answers.ReniceAnswer.ReniceAnswer, Moves.request_of}
 use Rattle.eevdf_queue.specs.declared.answers.ReniceAnswer.TheVariants as reniced_to
 use Rattle.eevdf_queue.specs.declared.answers.SetAnswer.TheVariants.{Set}
-use Rattle.eevdf_queue.specs.{Renice.renice, Renice.reniced, Renice.renice_entry, Renice.renice_to, Placing.put, Attributes.set, Attributes.set_reniced, SliceChange.set_slice, SliceChange.set_entry_slice}
-use Rattle.eevdf_fairness.specs.{Joining.Joins, JoiningDeeds.HasOthers, OneCpuJoins.AreLevel, OneCpuJoins.JoinsOthers}
+use Rattle.eevdf_queue.specs.{Renice.renice, Renice.reniced, Renice.renice_entry, Renice.renice_to, Placing.put, Attributes.set_reniced, SliceChange.set_slice, SliceChange.set_entry_slice}
+use Rattle.eevdf_fairness.specs.{Joining.Joins, JoiningDeeds.HasOthers, OneCpuJoins.JoinsOthers}
 use Rattle.eevdf_fairness.specs.JoiningOthers.{IsBesideOthers, DeedsJoinOthers, StartsAreLevel}
 use Rattle.eevdf_fairness.proofs.{Growing.get_here, Growing.insert_twice, Joining.joiner, Joining.joined_tasks, JoiningDeeds.reniced_joins, OneCpuJoins.left_absent}
 

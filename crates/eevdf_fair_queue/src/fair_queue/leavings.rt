@@ -1,10 +1,9 @@
 //! How tasks fall asleep, begin anew and leave: no bound grows by that.
 
-ghost use Rattle.std.specs.Prelude.{◌≡◌, ◌↔◌, IfSome, IsNone, false, Some};
+ghost use Rattle.std.specs.Prelude.{◌≡◌, ◌↔◌, IfSome, IsNone, false};
 ghost use Rattle.std.specs.Option.{option_map};
 ghost use Rattle.std.specs.FinMap as map;
 ghost use Rattle.eevdf_queue.specs.Attributes as attributes;
-ghost use Rattle.eevdf_queue.specs.Candidate.{is_running};
 ghost use Rattle.eevdf_queue.specs.Leaving.{IsNowhere, carried, carried_asleep, carried_running, leave, leave_asleep};
 ghost use Rattle.eevdf_fair_queue.specs.Sleeping.{slept};
 
