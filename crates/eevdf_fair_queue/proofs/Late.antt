@@ -1,9 +1,10 @@
 -- How late requests can be, by what every fair queue keeps.
 use Rattle.std.proofs.Common.{◌≡◌, ℕ, ◌^◌, ◌≤◌, ◌⊎◌, Bool, true, false, Option, Some, None, refl, ap, ◌∙◌, subst, inl, inr, arith}
-use Rattle.std.specs.Prelude.{ℤ, pos, neg_ℤ, ◌+ℤ◌, ◌-ℤ◌, ◌≤ℤ◌, ◌<ℤ◌, is_some}
+use Rattle.std.specs.Prelude.{ℤ, pos, neg_ℤ, ◌+ℤ◌, ◌-ℤ◌, ◌*ℤ◌, ◌≤ℤ◌, ◌<ℤ◌, is_some}
 use Rattle.std.specs.{Ordering.nat_cmp, FinMap.get, FinMap.empty, FinMap.get-empty, Int.int_max, Int.int_min}
 use Rattle.std.proofs.{lemmas.Int.ints, lemmas.Int.clamps}
 use Rattle.eevdf_queue.specs.{declared.entry.Entry.Entry, State.State, Sums.Tasks, Sums.virtual_time, Sums.total_weight, Sums.total_moment, Kept.IsKept, Laws.PickIsFirst, Laws.PickOfNobody}
+use Rattle.eevdf_queue.proofs.Scaled.{scaled_le}
 use Rattle.eevdf_queue.specs.Pick.{IsPick, is_eligible, pick_of}
 use Rattle.eevdf_dozes.specs.{Stretches.NoneIsPastDue, Punctual.IsTimeWithin}
 use Rattle.eevdf_dozes.proofs.Punctual.{time_within}
@@ -87,3 +88,12 @@ nothing_less z = omega (arith, ints)
 pub late_of : (q : State) (b : Bounds) (task : ℕ) (f : Entry) → IsKept q → IsFair q b → get q.runnable task ≡ Some f → IsLateBy q task (late_by b f.d)
 late_of q b task f kept fair at e here =
     late_within q b kept fair f.d task e here (subst (λ (x : Entry). f.d ≤ℤ x.d) (one f e (get q.runnable task) at here) (nothing_less f.d))
+
+-- ---- a greater number
+no_earlier : (d a b : ℤ) → a ≤ℤ b → (d +ℤ a) ≤ℤ (d +ℤ b)
+no_earlier d a b h = omega (arith, ints, h)
+
+pub none_later_than_more : (q : State) (a b : ℤ) → NoneIsLaterThan q a → a ≤ℤ b → NoneIsLaterThan q b
+none_later_than_more q a b late more task e here =
+    then (total_moment q.runnable) ((e.d +ℤ a) *ℤ pos (total_weight q.runnable)) ((e.d +ℤ b) *ℤ pos (total_weight q.runnable)) (late task e here)
+    (scaled_le (e.d +ℤ a) (e.d +ℤ b) (total_weight q.runnable) (no_earlier e.d a b more))

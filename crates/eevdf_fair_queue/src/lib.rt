@@ -8,6 +8,7 @@
 
 mod bounds;
 mod fair_queue;
+pub mod laws;
 
 pub use bounds::{Bounds, Mark};
 pub use fair_queue::FairQueue;
