@@ -42,7 +42,7 @@ fn a_long_turn_is_the_bound(rt: HostRuntime) {
     assert_eq!(rt; queue.pick(), Some(task(rt, 0)));
     queue.tick(ns(rt, 4_000_000));
     queue.tick(ns(rt, 6_000_000));
-    assert_eq!(rt; lateness(&queue), Some(2048 * 2_000_000));
+    assert_eq!(rt; lateness(rt, &queue), Some(2048 * 2_000_000));
     assert_eq!(rt; queue.lateness_bound(), 10_000_000);
     assert_eq!(rt;
         queue.bounds(),

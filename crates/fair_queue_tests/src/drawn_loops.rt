@@ -1,6 +1,6 @@
 //! Loops of calls that are drawn: at each moment the bound that is read is no less than how late requests are.
 
-use crate::kits::{admit, lateness};
+use crate::kits::{admit, lateness, times};
 use drawn_values::Draws;
 use eevdf_fair_queue::FairQueue;
 use eevdf_queue::{Refused, TaskId};
@@ -70,14 +70,11 @@ fn no_request_is_later_than_the_bound(rt: HostRuntime) {
         let mut queue = FairQueue::open();
         for _call in 0..CALLS {
             call(rt, rt.alloc(), &mut queue, &mut draws);
-            let Some(late) = lateness(&queue) else {
+            let Some(late) = lateness(rt, &queue) else {
                 continue;
             };
-            let load = i128::from(queue.queue().load());
-            assert!(rt;
-                late <= i128::from(queue.lateness_bound()) * load,
-                "a request is later than the bound"
-            );
+            let most = times(rt, queue.lateness_bound(), queue.queue().load());
+            assert!(rt; late <= most, "a request is later than the bound");
         }
     }
 }

@@ -31,15 +31,23 @@ pub fn admit(
 }
 
 /// By how much the exact virtual time is past the earliest deadline, times the load: what the bound, times the load, may not be below.
-pub fn lateness(queue: &FairQueue) -> Option<i128> {
+pub fn lateness(rt: &impl Abort, queue: &FairQueue) -> Option<i128> {
     let mut moment = 0i128;
     let mut earliest: Option<i64> = None;
     for (_task, entry) in queue.queue().runnable_tasks() {
-        moment += i128::from(entry.v) * i128::from(weight(entry.nice));
+        let part = times(rt, entry.v, weight(entry.nice));
+        moment = moment.checked_add(part).expect(rt, "sum");
         earliest = Some(lesser(earliest, &entry));
     }
-    let load = i128::from(queue.queue().load());
-    Some(moment - i128::from(earliest?) * load)
+    let due = times(rt, earliest?, queue.queue().load());
+    Some(moment.checked_sub(due).expect(rt, "difference"))
+}
+
+/// A virtual time so many times.
+pub fn times(rt: &impl Abort, time: i64, number: u64) -> i128 {
+    i128::from(time)
+        .checked_mul(i128::from(number))
+        .expect(rt, "product")
 }
 
 fn lesser(before: Option<i64>, entry: &Entry) -> i64 {

@@ -7,3 +7,5 @@ mod bounds;
 mod drawn_loops;
 #[cfg(test)]
 mod kits;
+#[cfg(test)]
+mod near_bounds;
