@@ -1,0 +1,64 @@
+//! The calls of a kernel, of which one is drawn after another.
+
+use drawn_values::Draws;
+use eevdf_fair_queue::FairQueue;
+use eevdf_queue::{Parcel, Refused, TaskId};
+use std::alloc::Global;
+
+/// The tasks that come and go have numbers below this.
+const TASKS: u64 = 12;
+
+/// Makes one drawn call: of 16 five are ticks, and four picks.
+pub fn make_call(queue: &mut FairQueue, alloc: Global, draws: &mut Draws) {
+    let task = draws.task(TASKS);
+    match draws.below(16) {
+        0..5 => {
+            let _ = queue.tick(draws.tick());
+        }
+        5..9 => {
+            let _ = queue.pick();
+        }
+        9 => {
+            let _ = queue.yield_now();
+        }
+        10 => sleep(queue),
+        11 => {
+            let _ = queue.wake(task);
+        }
+        12 => {
+            let _ = queue.renice(task, draws.nice());
+        }
+        13 => {
+            let _ = queue.set(task, draws.nice(), draws.slice());
+        }
+        14 => begin(queue, alloc, task, draws),
+        _ => end(queue, task),
+    }
+}
+
+/// Whoever runs falls asleep.
+fn sleep(queue: &mut FairQueue) {
+    if let Some(task) = queue.queue().running() {
+        let _ = queue.sleep(task);
+    }
+}
+
+/// A task begins at the virtual time, where it isn't here already. None begins where there is no memory for it.
+fn begin(queue: &mut FairQueue, alloc: Global, task: TaskId, draws: &mut Draws) {
+    let start = queue.queue().floor_time();
+    let Ok(parcel) = Parcel::make(alloc, task, draws.nice(), draws.slice(), start) else {
+        return;
+    };
+    if let Err(Refused { parcel, reason: _ }) = queue.try_admit(parcel) {
+        parcel.retire();
+    }
+}
+
+/// A task ends, whether it runs, waits or sleeps.
+fn end(queue: &mut FairQueue, task: TaskId) {
+    if let Some(parcel) = queue.detach_runnable(task) {
+        parcel.retire();
+    } else if let Some(parcel) = queue.detach_asleep(task) {
+        parcel.retire();
+    }
+}
