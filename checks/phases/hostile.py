@@ -6,6 +6,7 @@ def workload(machine, *tasks):
 
 
 TOO_LONG = b"fault: script longer than 16777216 bytes; these are the first deeds\n"
+TOO_MANY = b"fault: script of more than 640000 deeds; these are the first\n"
 LOOPS = "{ loop = 1000000000, phases = [" * 8 + '{ run = "1ns" }, "yield"' + "] }" * 8
 PING = 'name = "ping"\nphases = [{ resume = "pong" }, "suspend", { run = "1ns" }]'
 PONG = 'name = "pong"\nphases = [{ resume = "ping" }, "suspend", { run = "1ns" }]'
@@ -14,7 +15,7 @@ HOSTILE = {
     "a timer of 1 ns": (workload('lasts = "1000000s"', 'name = "a"\nphases = [{ timer = "1ns" }]'), 1, TOO_LONG),
     "runs of 1 ns": (workload('lasts = "1000000s"', 'name = "a"\ncount = 2\nphases = [{ run = "1ns" }, { sleep = "1ns" }]'), 1,
                      TOO_LONG),
-    "loops in loops": (workload('lasts = "1000000s"', f'name = "a"\nphases = [{LOOPS}]'), 1, TOO_LONG),
+    "loops in loops": (workload('lasts = "1000000s"', f'name = "a"\nphases = [{LOOPS}]'), 1, TOO_MANY),
     "a clock of 1 ns": (workload('lasts = "1s"\ntick = "1ns"', 'name = "a"\nphases = [{ run = "1s" }]'), 1, TOO_LONG),
     "tasks that wake one another": (workload('lasts = "1000000s"', PING, PONG), 1, TOO_LONG),
     "1024 tasks on 64 CPUs": (workload('cpus = 64\nlasts = "1000000s"',
