@@ -136,15 +136,17 @@ def check_hostile(checks, programs):
 
 
 def check_full_size(checks, programs):
-    """`eevdf solo` takes a script of the greatest length, which has no room for another deed."""
-    text, _status, error = HOSTILE["a timer of 1 ns"]
-    scripted = programs.run("eevdf_phases", [], text.encode())
-    longest = max(map(len, scripted.out.splitlines(keepends=True)))
-    is_full = MOST_BYTES - 2 * longest <= len(scripted.out) <= MOST_BYTES
-    checks.look("a script of full size", None if is_full and scripted.errors == error else f"{len(scripted.out)} bytes, {scripted.errors}")
-    solo = programs.run("eevdf", ["solo"], scripted.out)
-    is_done = solo.status == 0 and solo.out.count(b"\n") >= scripted.out.count(b'"') // 2
-    checks.look("`eevdf solo` of it", None if is_done else f"status {solo.status}, {solo.out[:200]!r}")
+    """`eevdf solo` takes a script of the greatest length, which has no room for another deed, and one of as many deeds as it may have."""
+    for name in ("a timer of 1 ns", "loops in loops"):
+        text, _status, error = HOSTILE[name]
+        scripted = programs.run("eevdf_phases", [], text.encode())
+        deeds = [line for line in scripted.out.splitlines(keepends=True) if line.startswith(b'  "')]
+        is_full = len(deeds) == MOST_DEEDS or MOST_BYTES - 2 * max(map(len, deeds)) <= len(scripted.out) <= MOST_BYTES
+        said = f"{len(scripted.out)} bytes, {len(deeds)} deeds, {scripted.errors}"
+        checks.look(f"a script of full size: {name}", None if is_full and scripted.errors == error else said)
+        solo = programs.run("eevdf", ["solo"], scripted.out)
+        is_done = solo.status == 0 and solo.out.count(b"\n") >= len(deeds)
+        checks.look(f"`eevdf solo` of it: {name}", None if is_done else f"status {solo.status}, {solo.out[:200]!r}")
 
 
 def check_many_deeds(checks, programs):

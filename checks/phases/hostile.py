@@ -23,6 +23,8 @@ HOSTILE = {
                               TOO_LONG),
     "the longest time": (workload('lasts = "1000000s"', 'name = "a"\nphases = [{ sleep = "1000000s" }, { timer = "1000000s" }]'), 1,
                          TOO_LONG),
+    "40000 names": ('version = 1\ntask = [' + ", ".join(f'{{ name = "a{number}" }}' for number in range(40000)) + ']\n'
+                     '[machine]\nlasts = "1ms"\n', 1, b"fault: task 1024: more than 1024 tasks\n"),
     "out of range": (workload('lasts = "1000000s"\ntick = "1000000s"', 'name = "a"\nnice = 19\nphases = [{ run = "1000000s" }]'), 1,
                      TOO_LONG),
 }

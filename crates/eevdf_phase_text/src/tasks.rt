@@ -16,6 +16,10 @@ pub(crate) fn groups(
     members: &[Value],
     cpus: usize,
 ) -> Result<Vec<Group>, PhaseFault> {
+    // looked at first, since each name is compared with all before it
+    if members.len() > TaskId::COUNT {
+        return Err(Place::Task(TaskId::COUNT).fault(Wrong::TooMany));
+    }
     let mut groups = named_groups(alloc, members)?;
     let mut tasks = 0usize;
     for (task, member) in members.iter().enumerate() {

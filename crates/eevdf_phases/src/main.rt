@@ -18,7 +18,7 @@ use crate::playing::play_text;
 use crate::words::{Output, output_of, unknown_word};
 use eevdf_bench::{
     BenchFault, NO_MEMORY, ProgramTexts, Reasoned, Watched, WordFault, fault_text, named_file,
-    print, read_input, status_of, take_file, tell, tell_reason,
+    read_input, status_of, take_file, tell, tell_reason,
 };
 use std::alloc::Global;
 use std::fs::Files;
