@@ -81,9 +81,9 @@ fn lists_of(
 ) -> Result<String, AllocError> {
     let mut text = String::from_str(
         alloc,
-        "</section>\n<dl id=\"told\" aria-live=\"polite\"><dt>nothing is told yet</dt></dl>\n",
+        "</section>\n<dl id=\"told\" aria-live=\"polite\"><dt>here</dt><dd>nothing is told yet</dd></dl>\n",
     )?;
-    text.push_str("<h2>What is left out</h2>\n")?;
+    text.push_str("<h2>What is shown</h2>\n")?;
     push_notes(&mut text, scene, places.len(), left_out)?;
     text.push_str("<h2>The stretches</h2>\n")?;
     push_table(alloc, &mut text, &scene.turns.stretches, places)?;

@@ -60,7 +60,7 @@ impl Begun {
                 self.count_tick(moment.line.deed.cpu());
                 set_at(&mut self.woken_from, task.index(), None);
             }
-            Answer::Woken | Answer::Slept(_) | Answer::Ended => {
+            Answer::Woken => {
                 if let Some(task) = named_task(moment.line.deed) {
                     set_at(&mut self.woken_from, task.index(), sender_of(moment));
                 }

@@ -39,6 +39,7 @@ kbd{border:1px solid var(--lines);border-radius:3px;padding:0 .3em}
 #picture text{fill:#e6e6e6}
 #picture .n{stroke:#161616}
 #picture .l{fill:#2a2a2a}
+#picture rect:focus{stroke:#ff6b6b}
 #picture .b{stroke:#e6e6e6}
 #picture .o{fill:#555}
 #picture .e{fill:#1d3a2a}

@@ -1,4 +1,4 @@
-//! What a page says of itself: what it leaves out.
+//! What a page says of itself: what it shows, and what it leaves out.
 
 use crate::scene::Scene;
 use std::alloc::AllocError;
@@ -40,12 +40,13 @@ pub(crate) fn push_notes(
     page.push_str(
         "<li>Zoomed, the picture has no more marks, arrows and lags than before; --from and --to draw a part finer.</li>\n",
     )?;
-    page.push_str("<li>The figures are of the whole schedule.</li>\n</ul>\n")
+    page.push_str("<li>The figures are of the whole time.</li>\n</ul>\n")
 }
 
 fn push_choice(page: &mut String, what: &str, chosen: usize, all: usize) -> Result<(), AllocError> {
     if chosen < all {
-        writeln!(page, "<li>Of {all} {what} {chosen} are chosen.</li>")?;
+        let are = if chosen == 1 { "is" } else { "are" };
+        writeln!(page, "<li>Of {all} {what} {chosen} {are} chosen.</li>")?;
     }
     Ok(())
 }
