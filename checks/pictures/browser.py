@@ -16,6 +16,8 @@ HERE = Path(__file__).resolve().parent
 # The edges of the lanes, in units of the picture, and how far a place may be from where it has to be.
 LEFT, WIDTH, NEAR = 90, 890, 0.11
 
+UNITS = {"s": 10**9, "ms": 10**6, "µs": 1000, "ns": 1}
+
 # How many seconds the browser has.
 PATIENCE = 240
 
@@ -47,6 +49,27 @@ def check_places(what, seen):
             raise Wrong(f"{what}: {box} from {first} to {last}")
 
 
+def check_near(what, place, wanted):
+    if abs(place - wanted) > NEAR:
+        raise Wrong(f"{what} is at {place}, and not at {wanted}")
+
+
+def check_marks(what, seen):
+    """A mark, an arrow's tip and a line of an axis stand at their times, and an arrow begins no later, but for how far arrows are beside
+    one another."""
+    first, last = seen["from"], seen["to"]
+    if not seen["marks"] or not seen["arrows"] or not seen["axes"]:
+        raise Wrong(f"{what}: no marks, arrows or axes")
+    for part in (*seen["marks"], *seen["arrows"]):
+        wanted = LEFT + WIDTH * (int(re.search(r", at (\d+) ns$", part["title"])[1]) - first) / (last - first)
+        check_near(part["title"], part["places"][-1] if "places" in part else part["place"], wanted)
+        if "places" in part and part["places"][0] > wanted + 15 + NEAR:
+            raise Wrong(f"{what}: {part} begins too late")
+    for line in seen["axes"]:
+        number, unit = line["label"].split()
+        check_near(line["label"], line["places"][0], LEFT + WIDTH * (int(number) * UNITS[unit] - first) / (last - first))
+
+
 def check_facts(what, facts, stretch):
     """What is told is that of a stretch of the data."""
     woken = f"from CPU {stretch['woken_from']}, {stretch['delay_ns']} ns before" if "woken_from" in stretch else "not since it ran last"
@@ -67,7 +90,8 @@ def check_search(sought, stretches):
     of_task = [place for place, stretch in enumerate(stretches) if stretch["task"] == 4]
     for answer in sought[:2]:
         expect("the lines of task 4", (answer["rows"], answer["found"]), (of_task, f"{len(of_task)} listed of task 4"))
-        expect("whose boxes are bright", set(answer["bright"]), {4})
+        expect("whose boxes are bright", set(answer["bright"]), {"task 4"})
+        expect("which lines the Tab key reaches", answer["reached"], of_task[:1])
     for answer, found in zip(sought[2:], ("no task: 0 to 8 are known", "")):
         expect("all lines again", (len(answer["rows"]), answer["found"]), (len(stretches), found))
 
@@ -90,9 +114,27 @@ def check_driven(chromium, page, ground):
     moved = said["moved"]["from"] - zoomed["from"]
     if abs(moved - (zoomed["to"] - zoomed["from"]) / 10) > 1:
         raise Wrong(f"moved by {moved}")
+    check_zoomed(said, page, zoomed["time"] + moved)
     check_search(said["sought"], stretches)
     expect("how it is again", said["back"], whole)
     check_keys(said, whole, stretches)
+
+
+def check_zoomed(said, page, time):
+    """Marks, arrows and axes move with the boxes, which get numbers; 20 ns is the least, at which the wheel moves nothing."""
+    for what in ("whole", "zoomed", "moved", "back"):
+        check_marks(what, said[what])
+    drawn = [[float(place) for place in found] for found in re.findall(rb'<path class="[pq]" d="M(\S+) \d+L(\S+) \d+"><title>', page)]
+    for arrow, places in zip(said["whole"]["arrows"], drawn, strict=True):
+        check_near(f"the begin of {arrow}", arrow["places"][0], places[0])
+    middles = [box["left"] + box["width"] / 2 for box in said["zoomed"]["boxes"] if not box["isCoarse"] and box["width"] >= 14]
+    for number in said["zoomed"]["numbers"]:
+        if not any(abs(number - middle) < NEAR for middle in middles):
+            raise Wrong(f"a number at {number}")
+    expect("numbers in finer boxes", len(said["zoomed"]["numbers"]) > 0, True)
+    shortest = said["shortest"]
+    if abs(shortest["to"] - shortest["from"] - 20) > 0.01 or abs(shortest["time"] - time) > 1:
+        raise Wrong(f"the shortest time is {shortest}, at {time}")
 
 
 def check_keys(said, whole, stretches):
@@ -105,6 +147,16 @@ def check_keys(said, whole, stretches):
     expect("which box has the focus", said["focused"]["at"], 1)
     check_facts("the stretch that has the focus", said["focused"]["facts"], at(stretches, box["cpu"], box["begin"]))
     check_facts("the line that has the focus", said["row"], stretches[2])
+    expect("whether the focus stays in the picture", said["kept"]["kept"], [True] * 14)
+    expect("what is told of the heading", said["nothing"], {"here": "nothing is known"})
+
+
+def check_untold(chromium, page):
+    """Of a page that tells the first stretches alone the boxes of the others stay as they are."""
+    said = driven(chromium, page, "light")
+    expect("errors", said["errors"], [])
+    check_places("the end", said["end"])
+    expect("whether coarse boxes are there, and faded ones", (bool(said["end"]["boxes"]), said["end"]["behind"]), (True, 0))
 
 
 def check_in_browser(checks):
@@ -115,3 +167,6 @@ def check_in_browser(checks):
     page = checks.written(("--html",), made.dense())
     for ground in GROUNDS:
         checks.attempt(f"a {ground} page in a browser", check_driven, chromium, page, ground)
+    part = checks.written(("--html", "--from", "25000000", "--to", "85000000"), made.dense())
+    checks.attempt("a page of a part in a browser", check_driven, chromium, part, "light")
+    checks.attempt("a page of 8000 stretches in a browser", check_untold, chromium, checks.written(("--html",), made.longest(32000)))

@@ -8,12 +8,30 @@ const places = () => [...shownBy].filter(([box]) => !box.hasAttribute("hidden"))
   cpu: shown.cpu, begin: shown.begin, end: shown.end, isCoarse: shown.isCoarse,
   left: numberOf(box, "x"), width: numberOf(box, "width"),
 }));
-const seen = () => ({ from: view.from, to: view.to, boxes: places() });
+const numbersOf = (part) => [...part.matchAll(/[ML](\S+) /g)].map((found) => Number(found[1]));
+const shownOf = (parts) => [...svg.querySelectorAll(parts)].filter((part) => titleOf(part) && !part.hasAttribute("hidden"));
+
+// What is seen: boxes, the numbers in finer ones, marks and arrows with their titles, and the lines of the axes with their labels.
+const seen = () => ({
+  from: view.from, to: view.to, boxes: places(),
+  numbers: [...finer.querySelectorAll("text")].map((text) => numberOf(text, "x")),
+  marks: shownOf("use").map((mark) => ({ title: titleOf(mark), place: numberOf(mark, "x") })),
+  arrows: shownOf(".p, .q").map((arrow) => ({ title: titleOf(arrow), places: numbersOf(arrow.getAttribute("d")) })),
+  axes: [...svg.querySelectorAll("path.g")].map((line) => ({ places: numbersOf(line.getAttribute("d").replace("V", " V")),
+    label: line.nextElementSibling.textContent })),
+});
 const facts = () => {
   const texts = [...document.querySelectorAll("#told > *")].map((part) => part.textContent);
   return Object.fromEntries(texts.flatMap((text, at) => (at % 2 ? [] : [[text, texts[at + 1]]])));
 };
-const press = (key) => picture.dispatchEvent(new KeyboardEvent("keydown", { key, bubbles: true, cancelable: true }));
+const frame = () => new Promise((done) => setTimeout(done, 20));
+
+// A key goes to what has the focus, once that is settled, as a user's does.
+async function press(key) {
+  await frame();
+  document.activeElement.dispatchEvent(new KeyboardEvent("keydown", { key, bubbles: true, cancelable: true }));
+  await frame();
+}
 
 // The middle of a box on the screen, and what the browser finds there.
 function pointAt(box) {
@@ -34,11 +52,28 @@ function search(words) {
   return {
     found: document.querySelector("#found").textContent,
     rows: rows.flatMap((row, at) => (row.hidden ? [] : [at])),
-    bright: [...shownBy].filter(([box, shown]) => !shown.isCoarse && !box.classList.contains("dim")).map(([, shown]) => shown.stretch.task),
+    bright: shownOf("rect").filter((box) => !box.classList.contains("dim")).flatMap((box) => titleOf(box).match(/^task \d+/) ?? []),
+    reached: rows.flatMap((row, at) => (row.tabIndex === 0 ? [at] : [])),
   };
 }
 
-function drive() {
+// Zooms with a box that has the focus, and gives each time whether the focus is on a box that is seen or on the picture.
+async function zoomFocused() {
+  const kept = [];
+  for (const key of ["ArrowDown", "+", "+", "+", "+", "+", "ArrowDown", "ArrowRight", "ArrowRight", "-", "-", "-", "-", "-"]) {
+    await press(key);
+    kept.push(document.activeElement === picture || shownBy.has(document.activeElement) && isSeen(document.activeElement));
+  }
+  return { kept, from: view.from, to: view.to };
+}
+
+// The end of the time, where the boxes of stretches of which nothing is told stay as they are.
+function lookAtEnd() {
+  look(whole.to - (whole.to - whole.from) / 50, whole.to);
+  return { ...seen(), behind: svg.querySelectorAll(".behind:not([hidden])").length };
+}
+
+async function drive() {
   said.dark = matchMedia("(prefers-color-scheme: dark)").matches;
   said.grounds = [getComputedStyle(document.body).backgroundColor, getComputedStyle(svg.querySelector(".w")).fill];
   said.whole = seen();
@@ -47,29 +82,33 @@ function drive() {
   const point = pointAt(box);
   said.pointed = { isBox: point.target === box, cpu: shownBy.get(box).cpu, time: timeOf(placeOfPointer(point)), facts: facts() };
   for (let times = 0; times < 13; times += 1) wheel(point, { deltaY: -100 });
-  said.zoomed = { ...seen(), time: timeOf(placeOfPointer(point)) };
+  said.zoomed = { ...seen(), time: timeOf(placeOfPointer(point)), facts: facts() };
   wheel(point, { deltaY: 100, shiftKey: true });
   said.moved = seen();
   said.sought = ["task 4", "4", "nobody", ""].map(search);
-  press("0");
-  said.back = seen();
-  for (const key of ["+", "+", "ArrowRight", "-"]) press(key);
-  said.keyed = { from: view.from, to: view.to };
-  press("0");
+  for (let times = 0; times < 80; times += 1) wheel(point, { deltaY: -100 });
+  said.shortest = { from: view.from, to: view.to, time: timeOf(placeOfPointer(point)) };
   picture.focus();
-  press("ArrowDown");
-  press("ArrowDown");
+  await press("0");
+  said.back = seen();
+  for (const key of ["+", "+", "ArrowRight", "-"]) await press(key);
+  said.keyed = { from: view.from, to: view.to };
+  await press("0");
+  await press("ArrowDown");
+  await press("ArrowDown");
   said.focused = { at: [...shownBy.keys()].indexOf(document.activeElement), facts: facts() };
+  said.kept = await zoomFocused();
   rows[2].focus();
   said.row = facts();
+  svg.scrollIntoView({ block: "start" });
+  pointAt(svg.querySelector(".h"));
+  said.nothing = facts();
+  said.end = lookAtEnd();
 }
 
-try {
-  drive();
-} catch (error) {
-  said.errors.push(error.stack);
-}
-const result = document.createElement("pre");
-result.id = "result";
-result.textContent = JSON.stringify(said);
-document.body.append(result);
+drive().catch((error) => said.errors.push(error.stack)).then(() => {
+  const result = document.createElement("pre");
+  result.id = "result";
+  result.textContent = JSON.stringify(said);
+  document.body.append(result);
+});

@@ -93,7 +93,8 @@ def check_whole(text, picture, table, figures, file=None):
     expect("the table", [row for row in page.rows if len(row) == 7][1:], rows[:MOST_LISTED])
     expect("the figures", page.texts["figures"], figures.decode())
     data = page.data()
-    expect("how many stretches are told and left out", (len(data["stretches"]), data["left_out"]), (len(rows[:MOST_LISTED]), len(rows[MOST_LISTED:])))
+    counts = len(data["stretches"]), data["left_out"]
+    expect("how many stretches are told and left out", counts, (len(rows[:MOST_LISTED]), len(rows[MOST_LISTED:])))
     of_all = re.search(r"Of (\d+) stretches the first (\d+) are", page.texts["li"])
     expect("whether it says so", of_all and tuple(map(int, of_all.groups())), (len(rows), MOST_LISTED) if data["left_out"] else None)
     expect("the file", data["file"], file)
