@@ -45,8 +45,8 @@ pub(crate) fn push_notes(
 
 fn push_choice(page: &mut String, what: &str, chosen: usize, all: usize) -> Result<(), AllocError> {
     if chosen < all {
-        let are = if chosen == 1 { "is" } else { "are" };
-        writeln!(page, "<li>Of {all} {what} {chosen} {are} chosen.</li>")?;
+        let verb = if chosen == 1 { "is" } else { "are" };
+        writeln!(page, "<li>Of {all} {what} {chosen} {verb} chosen.</li>")?;
     }
     Ok(())
 }
