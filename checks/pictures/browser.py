@@ -169,4 +169,4 @@ def check_in_browser(checks):
         checks.attempt(f"a {ground} page in a browser", check_driven, chromium, page, ground)
     part = checks.written(("--html", "--from", "25000000", "--to", "85000000"), made.dense())
     checks.attempt("a page of a part in a browser", check_driven, chromium, part, "light")
-    checks.attempt("a page of 8000 stretches in a browser", check_untold, chromium, checks.written(("--html",), made.longest(32000)))
+    checks.attempt("a page of 7830 stretches in a browser", check_untold, chromium, checks.written(("--html",), made.longest(32000)))
