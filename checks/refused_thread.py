@@ -19,6 +19,8 @@ LIMITS = {RLIMIT_STACK: 8 << 20, RLIMIT_AS: 256 << 20}
 # The stack of a thread of `eevdf_uses`, and how many have room beside the program where its turns are refused. What it prints ends then
 # with the line that begins what it does by them.
 USES_STACK = 256 << 20
+# It takes two seconds alone. Its threads wait for each other, and in the gate for what runs beside them.
+USES_SECONDS = 180
 USES = {"turns with a history": (1, b"two threads\n"), "turns without a history": (2, b"idle pulls\n")}
 
 
@@ -27,11 +29,11 @@ def look_at_uses(checks, programs):
     wanted = (TOP / "crates" / "eevdf_uses" / "stdout").read_bytes()
     for name, (threads, last) in USES.items():
         limits = {RLIMIT_STACK: USES_STACK, RLIMIT_AS: threads * USES_STACK + USES_STACK // 2}
-        printed = programs.run("eevdf_uses", [], limits=limits)
+        printed = programs.run("eevdf_uses", [], limits=limits, seconds=USES_SECONDS)
         before = wanted.partition(last)[0] + last
         is_told = printed.status == 1 and printed.out == before and b"WouldBlock" in printed.errors
         checks.expect(f"a refused thread of {name}", printed, is_told)
-    whole = programs.run("eevdf_uses", [])
+    whole = programs.run("eevdf_uses", [], seconds=USES_SECONDS)
     checks.expect("turns whose threads have room", whole, (whole.out, whole.status) == (wanted, 0))
 
 
