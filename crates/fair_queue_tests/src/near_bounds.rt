@@ -7,19 +7,18 @@ use eevdf_weight::{Nice, Slice};
 use std::alloc::Global;
 use std::process::Abort;
 
-/// A task that comes, with the virtual time at which it starts.
-#[derive(Clone, Copy)]
-struct Newcomer {
-    task: u64,
-    nice: i64,
-    slice: u64,
+/// A task comes with a nice level and a slice, and starts at a virtual time.
+fn join(
+    rt: &impl Abort,
+    alloc: Global,
+    queue: &mut FairQueue,
+    number: u64,
+    (nice, slice): (i64, u64),
     start: i64,
-}
-
-fn join(rt: &impl Abort, alloc: Global, queue: &mut FairQueue, new: Newcomer) {
-    let nice = Nice::new(new.nice).expect(rt, "nice");
-    let slice = Slice::new(new.slice).expect(rt, "slice");
-    let made = Parcel::make(alloc, task(rt, new.task), nice, slice, new.start);
+) {
+    let nice = Nice::new(nice).expect(rt, "nice");
+    let slice = Slice::new(slice).expect(rt, "slice");
+    let made = Parcel::make(alloc, task(rt, number), nice, slice, start);
     if let Err(Refused { parcel, reason: _ }) = queue.try_admit(made.expect(rt, "memory")) {
         parcel.retire();
     }
@@ -39,30 +38,8 @@ fn expect_near(rt: &impl Abort, queue: &FairQueue, late: i128, bound: i64) {
 fn a_tick_is_late_by_nearly_the_bound(rt: HostRuntime) {
     let rt = &rt;
     let mut queue = FairQueue::open();
-    let (slice, start) = (3_000_000, 0);
-    join(
-        rt,
-        rt.alloc(),
-        &mut queue,
-        Newcomer {
-            task: 0,
-            nice: -20,
-            slice,
-            start,
-        },
-    );
-    let slice = 1_000_000;
-    join(
-        rt,
-        rt.alloc(),
-        &mut queue,
-        Newcomer {
-            task: 1,
-            nice: 0,
-            slice,
-            start,
-        },
-    );
+    join(rt, rt.alloc(), &mut queue, 0, (-20, 3_000_000), 0);
+    join(rt, rt.alloc(), &mut queue, 1, (0, 1_000_000), 0);
     assert_eq!(rt; queue.pick(), Some(task(rt, 0)));
     queue.tick(ns(rt, 867_000_000));
     expect_near(rt, &queue, 798_022_937_030, 10_002_230);
@@ -73,31 +50,9 @@ fn a_tick_is_late_by_nearly_the_bound(rt: HostRuntime) {
 fn a_join_is_late_by_nearly_the_bound(rt: HostRuntime) {
     let rt = &rt;
     let mut queue = FairQueue::open();
-    let (nice, slice, start) = (0, 1_000_000, 0);
-    join(
-        rt,
-        rt.alloc(),
-        &mut queue,
-        Newcomer {
-            task: 0,
-            nice,
-            slice,
-            start,
-        },
-    );
+    join(rt, rt.alloc(), &mut queue, 0, (0, 1_000_000), 0);
     queue.pick();
-    let (nice, slice, start) = (-20, 3_000_000, 10_000_000);
-    join(
-        rt,
-        rt.alloc(),
-        &mut queue,
-        Newcomer {
-            task: 1,
-            nice,
-            slice,
-            start,
-        },
-    );
+    join(rt, rt.alloc(), &mut queue, 1, (-20, 3_000_000), 10_000_000);
     expect_near(rt, &queue, 797_825_000_000, 9_000_000);
 }
 
@@ -107,42 +62,9 @@ fn a_join_is_late_by_nearly_the_bound(rt: HostRuntime) {
 fn a_wake_is_late_by_nearly_the_bound(rt: HostRuntime) {
     let rt = &rt;
     let mut queue = FairQueue::open();
-    let (slice, start) = (1_000_000, 0);
-    join(
-        rt,
-        rt.alloc(),
-        &mut queue,
-        Newcomer {
-            task: 0,
-            nice: 0,
-            slice,
-            start,
-        },
-    );
-    let slice = 100_000;
-    join(
-        rt,
-        rt.alloc(),
-        &mut queue,
-        Newcomer {
-            task: 1,
-            nice: 19,
-            slice,
-            start,
-        },
-    );
-    let slice = 100_000_000;
-    join(
-        rt,
-        rt.alloc(),
-        &mut queue,
-        Newcomer {
-            task: 2,
-            nice: -20,
-            slice,
-            start,
-        },
-    );
+    join(rt, rt.alloc(), &mut queue, 0, (0, 1_000_000), 0);
+    join(rt, rt.alloc(), &mut queue, 1, (19, 100_000), 0);
+    join(rt, rt.alloc(), &mut queue, 2, (-20, 100_000_000), 0);
     assert_eq!(rt; queue.pick(), Some(task(rt, 0)));
     queue.tick(ns(rt, 10_000_000));
     assert_eq!(rt; queue.sleep(task(rt, 0)), Some(-2_000_000));
@@ -159,31 +81,9 @@ fn a_wake_is_late_by_nearly_the_bound(rt: HostRuntime) {
 fn a_renice_is_late_by_nearly_the_bound(rt: HostRuntime) {
     let rt = &rt;
     let mut queue = FairQueue::open();
-    let (nice, slice, start) = (19, 100_000, 0);
-    join(
-        rt,
-        rt.alloc(),
-        &mut queue,
-        Newcomer {
-            task: 1,
-            nice,
-            slice,
-            start,
-        },
-    );
+    join(rt, rt.alloc(), &mut queue, 1, (19, 100_000), 0);
     queue.pick();
-    let (nice, slice, start) = (-20, 3_000_000, 20_000_000);
-    join(
-        rt,
-        rt.alloc(),
-        &mut queue,
-        Newcomer {
-            task: 0,
-            nice,
-            slice,
-            start,
-        },
-    );
+    join(rt, rt.alloc(), &mut queue, 0, (-20, 3_000_000), 20_000_000);
     queue.renice(task(rt, 0), Nice::new(-10).expect(rt, "nice"));
     expect_near(rt, &queue, 125_987_600_046, 13_205_907);
 }
