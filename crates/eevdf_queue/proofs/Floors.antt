@@ -13,7 +13,7 @@ pub below_next : (z : ℤ) (n : ℕ) → 1 ≤ n → z <ℤ ((floor_div z n *ℤ
 below_next (pos a) n h = omega (arith, ints)
 below_next (negsuc a) n h = omega (arith, ints)
 
-no_more : (a c z : ℤ) (n : ℕ) → (a *ℤ pos n) ≤ℤ z → z <ℤ ((c *ℤ pos n) +ℤ pos n) → a ≤ℤ c
+pub no_more : (a c z : ℤ) (n : ℕ) → (a *ℤ pos n) ≤ℤ z → z <ℤ ((c *ℤ pos n) +ℤ pos n) → a ≤ℤ c
 no_more a c z n h k =
     by (int_le a c) refl
   where

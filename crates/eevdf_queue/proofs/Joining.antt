@@ -6,7 +6,7 @@ use mir.Syntax.{w64}
 use mir.Val.{SFits}
 use Rattle.eevdf_queue.specs.{declared.entry.Entry.Entry, State.State, State.Sleeper, State.Contents, Sums.Tasks}
 use Rattle.eevdf_queue.specs.Moves.{fresh_entry, is_entry_in_range, with_runnable, sleeper_of}
-use Rattle.eevdf_queue.specs.{Placing.placement, Placing.placed_entry, Placing.put, Wake.wake, Wake.wake_to, Wake.wake_sleeper}
+use Rattle.eevdf_queue.specs.{Placing.placement, Placing.placed_entry, Placing.put, Wake.wake, Wake.wake_to, Wake.wake_sleeper, Wake.waking_entry, Wake.waking_runtime}
 use Rattle.eevdf_queue.specs.declared.answers.WakeAnswer.TheVariants.{Woken, Awake, Range}
 use Rattle.eevdf_queue.proofs.Sound.{Asleep}
 
@@ -18,6 +18,16 @@ in_range_by e r false h k = cc
 pub placed_in_range : (q : State) (s : Sleeper) (r : Entry) → placed_entry q s ≡ Some r → is_entry_in_range r ≡ true
 placed_in_range q s r h =
     let e : Entry = fresh_entry (placement q s) s.nice s.slice in in_range_by e r (is_entry_in_range e) refl h
+
+-- a task without a place wakes where it would join
+pub plainly : (q : State) (s : Sleeper) (place : Option ℤ) → is_some place ≡ false → waking_entry q s place ≡ placed_entry q s
+plainly q s None h = refl
+plainly q s (Some place) h = cc
+
+-- and so is one at which a task wakes
+pub waking_in_range : (q : State) (s : Sleeper) (place : Option ℤ) (r : Entry) → waking_entry q s place ≡ Some r → is_entry_in_range r ≡ true
+waking_in_range q s place r h =
+    let e : Entry = fresh_entry (waking_runtime q s place) s.nice s.slice in in_range_by e r (is_entry_in_range e) refl h
 
 absent : (o : Option Entry) (a : Option Sleeper) (s : Sleeper) → (is_some o ≡ true → a ≡ None) → a ≡ Some s → o ≡ None
 absent None a s h k = refl
@@ -40,11 +50,11 @@ not_joined q t s h = none_joined q t (placed_entry q s) h
 pub stays_awake : (q : State) (t : ℕ) → get q.asleep t ≡ None → wake q t ≡ (Awake, q)
 stays_awake q t h = ap (wake_sleeper q t) h
 
-pub stays_asleep : (q : State) (t : ℕ) (s : Sleeper) → get q.asleep t ≡ Some s → placed_entry q s ≡ None → wake q t ≡ (Range, q)
+pub stays_asleep : (q : State) (t : ℕ) (s : Sleeper) → get q.asleep t ≡ Some s → waking_entry q s (get q.places t) ≡ None → wake q t ≡ (Range, q)
 stays_asleep q t s h k = ap (wake_sleeper q t) h ∙ ap (λ (o : Option Entry). wake_to q t (with_runnable q t o)) k
 
-pub woken : (q : State) (t : ℕ) (s : Sleeper) (e : Entry) → get q.asleep t ≡ Some s → placed_entry q s ≡ Some e
-    → wake q t ≡ (Woken, record q { runnable = insert q.runnable t e; asleep = remove q.asleep t })
+pub woken : (q : State) (t : ℕ) (s : Sleeper) (e : Entry) → get q.asleep t ≡ Some s → waking_entry q s (get q.places t) ≡ Some e
+    → wake q t ≡ (Woken, record q { runnable = insert q.runnable t e; asleep = remove q.asleep t; places = remove q.places t })
 woken q t s e h k = ap (wake_sleeper q t) h ∙ ap (λ (o : Option Entry). wake_to q t (with_runnable q t o)) k
 
 -- what a parcel brings along, read part by part

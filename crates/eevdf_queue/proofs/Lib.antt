@@ -18,6 +18,7 @@ pub mod TreeLast
 mod LastOfAll
 mod TreeSorted
 pub mod AsleepMaps
+pub mod DueTasks
 pub mod Sound
 mod Picking
 pub mod Scaled
@@ -26,6 +27,9 @@ pub mod Mean
 pub mod SomeEligible
 mod Picked
 mod SleepingLag
+mod Placed
+mod Waking
+mod Rebasing
 mod TreeLists
 mod TreeSeen
 pub mod TreeMaps

@@ -1,23 +1,25 @@
 -- A queue and the same queue lowered by a number answer alike.
 use Rattle.std.proofs.Common.{◌≡◌, ℕ, ◌+◌, ◌≤◌, ◌==◌, Bool, true, false, cond, Option, Some, None, refl, sym, ap, subst, ◌∙◌, inl, inr, arith}
 use Rattle.std.specs.Prelude.{ℤ, pos, ◌+ℤ◌, ◌-ℤ◌, ◌*ℤ◌, int_le, map}
+use Rattle.std.specs.Int.{int_max}
 use Rattle.std.specs.{Option.option_map, Ordering.nat_cmp, Ordering.eq_by_cmp, Cmp.nat_cmp_total}
 use Rattle.std.specs.FinMap.{empty, contains_key, entries, get, insert, remove, len, get-empty, get-insert}
 use Rattle.std.proofs.lemmas.{Bool.Decides.nat_tests, Int.ints}
 use Rattle.eevdf_weight.specs.{Limits.is_in_range, Weight.weight_of, Charge.charge_of, Placement.placement_of, Placement.floor_div}
-use Rattle.eevdf_queue.specs.{declared.entry.Entry.Entry, State.State, State.Sleeper, Lag.kept_lag, Lag.cut, Lag.limit_of, Lag.lag_by}
+use Rattle.eevdf_queue.specs.{declared.entry.Entry.Entry, State.State, State.Sleeper, State.Contents, Lag.kept_lag, Lag.cut, Lag.limit_of, Lag.lag_by}
 use Rattle.eevdf_queue.specs.Sums.{Tasks, sum_weights, sum_moments, time_over, virtual_time, total_weight, total_moment}
 use Rattle.eevdf_queue.specs.Moves.{fresh_entry, is_entry_in_range, entry_in_range, with_runnable, request_of}
-use Rattle.eevdf_queue.specs.{Candidate.candidate_of, Pick.pick_of, Pick.picked_by, Pick.after_pick, Pick.adopted}
+use Rattle.eevdf_queue.specs.{Candidate.candidate_of, Candidate.is_running, Pick.pick_of, Pick.picked_by, Pick.after_pick, Pick.adopted}
 use Rattle.eevdf_queue.specs.Tick.{aged, is_used_up, charged, tick, tick_to, tick_entry, tick_running}
 use Rattle.eevdf_queue.specs.Yield.{yielded, yield_now, yield_to, yield_entry, yield_running}
 use Rattle.eevdf_queue.specs.Placing.{runtime_of, placement, put}
-use Rattle.eevdf_queue.specs.Wake.{wake, wake_to, wake_sleeper}
+use Rattle.eevdf_queue.specs.Wake.{wake, wake_to, wake_sleeper, waking_runtime, waking_entry}
+use Rattle.eevdf_queue.specs.Doze.{dozing, put_dozing, dozed, doze, dozed_lag, place_of}
 use Rattle.eevdf_queue.specs.Renice.{reniced, renice, renice_to, renice_entry, rescaled_lag}
-use Rattle.eevdf_queue.specs.Leaving.{leaving, carried, stopped, without_entry, leave, leaving_asleep, without_sleeper, leave_asleep}
+use Rattle.eevdf_queue.specs.Leaving.{leaving, carried, carried_running, stopped, without_entry, leave, leave_running, leaving_asleep, without_sleeper, leave_asleep}
 use Rattle.eevdf_queue.specs.{SliceChange.set_slice, SliceChange.set_entry_slice, SliceChange.set_sleeper_slice, SliceChange.sleeper_with_slice}
 use Rattle.eevdf_queue.specs.Attributes.{set_reniced, set_sleeper, sleeper_with, begin, begin_sleeper, fresh_sleeper}
-use Rattle.eevdf_queue.specs.{Kept.RunnerIsHere, Kept.IsSound}
+use Rattle.eevdf_queue.specs.{Kept.RunnerIsHere, Kept.AreSound}
 use Rattle.eevdf_queue.specs.Rebase.{lowered_entry, lowered_tasks, rebased}
 use Rattle.eevdf_queue.specs.{Kept.AreInRange, TimeToResched.ends_request, Ascending.sleeping_tasks, Ascending.with_lag}
 use Rattle.eevdf_queue.specs.Closing.{first_number, take_any, take_first, take_sleeper}
@@ -28,7 +30,7 @@ use Rattle.eevdf_queue.specs.declared.answers.WakeAnswer.TheVariants as wakes
 use Rattle.eevdf_queue.specs.declared.answers.ReniceAnswer.TheVariants as renices
 use Rattle.eevdf_queue.specs.declared.answers.SetAnswer.TheVariants as sets
 use Rattle.eevdf_queue.specs.{declared.answers.TickAnswer.TickAnswer, declared.answers.YieldAnswer.YieldAnswer, declared.answers.ReniceAnswer.ReniceAnswer}
-use Rattle.eevdf_queue.proofs.{Floors.floor_lowered, MapFolds.entries-empty, Mean.no_tasks, ListMaps.same_number, Sound.Asleep}
+use Rattle.eevdf_queue.proofs.{Floors.floor_lowered, MapFolds.entries-empty, Mean.no_tasks, ListMaps.same_number, Sound.Asleep, Sound.Places, Waking.later_lower, Waking.further_lower, Waking.same_place}
 use Rattle.eevdf_queue.proofs.ShortestTicks.{ends_where, absent_ends}
 use Rattle.eevdf_queue.proofs.LoweredMaps.{get-lowered, contains-lowered, len-lowered, weight-lowered, moment-lowered, pick-lowered, candidate-lowered, insert-lowered, remove-lowered}
 
@@ -90,6 +92,19 @@ placed_by by time lag nice W true = refl
 placed_by by time lag nice W false = earlier_lowered time by (floor_div (lag *ℤ pos (W + weight_of nice)) W)
 
 -- ---- a queue and the lower one
+-- a task that is put to sleep as one that dozes: the place where it left stays
+dozing_lower : (by : ℤ) (q r : State) → IsLower by q r → (p : Contents) → IsLower by (put_dozing q p) (put_dozing r (lowered_contents by p))
+dozing_lower by q r h p = record {
+  runnable = h.runnable;
+  running = h.running;
+  asleep = ap (λ n. insert n p.task (dozing p)) h.asleep;
+  base = h.base;
+  places =
+      ap (λ n. insert n p.task ((p.start -ℤ by) +ℤ r.shift)) h.places
+      ∙ ap (insert q.places p.task) (same_place p.start q.shift r.shift by h.shift);
+  shift = h.shift;
+}
+
 module _ (by : ℤ) (q r : State) (h : IsLower by q r) where
   time_lower : virtual_time r ≡ virtual_time q -ℤ by
   time_lower =
@@ -114,11 +129,13 @@ module _ (by : ℤ) (q r : State) (h : IsLower by q r) where
     running = h.running;
     asleep = h.asleep;
     base = λ none. absurd (filled q.runnable t e none);
+    places = h.places;
+    shift = h.shift;
   }
 
   pick_lower : (o : Option ℕ) → IsLower by (picked_by q o) (picked_by r o)
   pick_lower None = h
-  pick_lower (Some t) = record { runnable = h.runnable; running = refl; asleep = h.asleep; base = h.base }
+  pick_lower (Some t) = record { runnable = h.runnable; running = refl; asleep = h.asleep; base = h.base; places = h.places; shift = h.shift }
 
   adopt_where : (t : ℕ) (b : Bool) → IsLower by (cond b (picked_by q (Some t)) q) (cond b (picked_by r (Some t)) r)
   adopt_where t false = h
@@ -200,6 +217,8 @@ module _ (by : ℤ) (q r : State) (h : IsLower by q r) where
     running = ap (λ (o : Option ℕ). stopped o t) h.running;
     asleep = h.asleep;
     base = λ _. refl;
+    places = h.places;
+    shift = h.shift;
   }
 
   leave_lower : (t : ℕ) → IsLower by (leave q t) (leave r t)
@@ -215,7 +234,14 @@ module _ (by : ℤ) (q r : State) (h : IsLower by q r) where
 
   asleep_of : (t : ℕ) (o : Option Sleeper) → IsLower by (without_sleeper q t o) (without_sleeper r t o)
   asleep_of t None = h
-  asleep_of t (Some s) = record { runnable = h.runnable; running = h.running; asleep = ap (λ n. remove n t) h.asleep; base = h.base }
+  asleep_of t (Some s) = record {
+    runnable = h.runnable;
+    running = h.running;
+    asleep = ap (λ n. remove n t) h.asleep;
+    base = h.base;
+    places = ap (λ n. remove n t) h.places;
+    shift = h.shift;
+  }
 
   carried_asleep_of : (t : ℕ) (o : Option Sleeper) → option_map (leaving_asleep r t) o ≡ option_map (lowered_contents by) (option_map (leaving_asleep q t) o)
   carried_asleep_of t None = refl
@@ -226,16 +252,72 @@ module _ (by : ℤ) (q r : State) (h : IsLower by q r) where
   wake_to_lower : (t : ℕ) (x y : Option State) → JoinAlike by x y → AreAlike wakes.Range by (wake_to q t x) (wake_to r t y)
   wake_to_lower t None y k = inl refl
   wake_to_lower t (Some a) None k = inr (inl refl)
-  wake_to_lower t (Some a) (Some b) k = inr (inr (refl, record { runnable = k.runnable; running = k.running; asleep = ap (λ n. remove n t) h.asleep; base = k.base }))
+  wake_to_lower t (Some a) (Some b) k = inr (inr (
+    refl,
+    record {
+      runnable = k.runnable;
+      running = k.running;
+      asleep = ap (λ n. remove n t) h.asleep;
+      base = k.base;
+      places = ap (λ n. remove n t) h.places;
+      shift = k.shift;
+    },
+  ))
+
+  waking_lower : (s : Sleeper) (place : Option ℤ) → waking_runtime r s place ≡ waking_runtime q s place -ℤ by
+  waking_lower s None = placement_lower s
+  waking_lower s (Some place) =
+      ap (λ (z : ℤ). int_max (place -ℤ z) (placement r s)) h.shift
+      ∙ ap (int_max (place -ℤ (q.shift +ℤ by))) (placement_lower s)
+      ∙ later_lower place q.shift (placement q s) by
+
+  waking_alike : (t : ℕ) (s : Sleeper) (place : Option ℤ) → JoinAlike by (with_runnable q t (waking_entry q s place)) (with_runnable r t (waking_entry r s place))
+  waking_alike t s place = join_at t (waking_runtime q s place) (waking_runtime r s place) s.nice s.slice (waking_lower s place)
 
   wake_of : (t : ℕ) (o : Option Sleeper) → AreAlike wakes.Range by (wake_sleeper q t o) (wake_sleeper r t o)
   wake_of t None = inr (inr (refl, h))
-  wake_of t (Some s) = wake_to_lower t (put q t s) (put r t s) (put_lower t s)
+  wake_of t (Some s) =
+      subst (λ (p : Places). AreAlike wakes.Range by (wake_sleeper q t (Some s)) (wake_to r t (with_runnable r t (waking_entry r s (get p t))))) (sym h.places)
+      (wake_to_lower t _ _ (waking_alike t s (get q.places t)))
+
+  -- a doze
+  runner_where : (t : ℕ) (b : Bool) → cond b (carried r t) None ≡ option_map (lowered_contents by) (cond b (carried q t) None)
+  runner_where t true = carried_lower t
+  runner_where t false = refl
+
+  runner_lower : (t : ℕ) → carried_running r t ≡ option_map (lowered_contents by) (carried_running q t)
+  runner_lower t = ap (λ (o : Option ℕ). cond (is_running o t) (carried r t) None) h.running ∙ runner_where t (is_running q.running t)
+
+  lag_of_carried : (o : Option Contents) → option_map (λ (p : Contents). p.lag) (option_map (lowered_contents by) o) ≡ option_map (λ (p : Contents). p.lag) o
+  lag_of_carried None = refl
+  lag_of_carried (Some p) = refl
+
+  dozed_lag_lower : (t : ℕ) → dozed_lag r t ≡ dozed_lag q t
+  dozed_lag_lower t = ap (option_map (λ (p : Contents). p.lag)) (runner_lower t) ∙ lag_of_carried (carried_running q t)
+
+  left_where : (t : ℕ) (b : Bool) → IsLower by (cond b (leave q t) q) (cond b (leave r t) r)
+  left_where t true = leave_lower t
+  left_where t false = h
+
+  left_running : (t : ℕ) → IsLower by (leave_running q t) (leave_running r t)
+  left_running t =
+      subst (λ (o : Option ℕ). IsLower by (leave_running q t) (cond (is_running o t) (leave r t) r)) (sym h.running) (left_where t (is_running q.running t))
+
+  doze_of : (t : ℕ) (o : Option Contents) → IsLower by (dozed q t o) (dozed r t (option_map (lowered_contents by) o))
+  doze_of t None = h
+  doze_of t (Some p) = dozing_lower by (leave_running q t) (leave_running r t) (left_running t) p
+
+  place_where : (o : Option ℤ) → option_map (λ (place : ℤ). place -ℤ r.shift) o ≡ option_map (λ (place : ℤ). place -ℤ by) (option_map (λ (place : ℤ). place -ℤ q.shift) o)
+  place_where None = refl
+  place_where (Some place) = ap (λ (z : ℤ). Some z) (further_lower place q.shift r.shift by h.shift)
+
+  place_lower : (t : ℕ) → place_of r t ≡ option_map (λ (place : ℤ). place -ℤ by) (place_of q t)
+  place_lower t = ap (λ (p : Places). option_map (λ (place : ℤ). place -ℤ r.shift) (get p t)) h.places ∙ place_where (get q.places t)
 
   -- another slice
   sleeper_of : (t slice : ℕ) (o : Option Sleeper) → IsLower by (set_sleeper_slice q t slice o) (set_sleeper_slice r t slice o)
   sleeper_of t slice None = h
-  sleeper_of t slice (Some s) = record { runnable = h.runnable; running = h.running; asleep = ap (λ n. insert n t (sleeper_with_slice s slice)) h.asleep; base = h.base }
+  sleeper_of t slice (Some s) = record { runnable = h.runnable; running = h.running; asleep = ap (λ n. insert n t (sleeper_with_slice s slice)) h.asleep; base = h.base; places = h.places; shift = h.shift }
 
   slice_of : (t slice : ℕ) (o : Option Entry) → IsLower by (set_entry_slice q t slice o) (set_entry_slice r t slice (option_map (lowered_entry by) o))
   slice_of t slice None = subst (λ n. IsLower by (set_sleeper_slice q t slice (get q.asleep t)) (set_sleeper_slice r t slice (get n t))) (sym h.asleep) (sleeper_of t slice (get q.asleep t))
@@ -247,13 +329,20 @@ module _ (by : ℤ) (q r : State) (h : IsLower by q r) where
   -- a sleeping task that begins anew
   begin_of : (t : ℕ) (nice : ℤ) (slice : ℕ) (o : Option Sleeper) → IsLower by (begin_sleeper q t nice slice o) (begin_sleeper r t nice slice o)
   begin_of t nice slice None = h
-  begin_of t nice slice (Some s) = record { runnable = h.runnable; running = h.running; asleep = ap (λ n. insert n t (fresh_sleeper nice slice)) h.asleep; base = h.base }
+  begin_of t nice slice (Some s) = record {
+    runnable = h.runnable;
+    running = h.running;
+    asleep = ap (λ n. insert n t (fresh_sleeper nice slice)) h.asleep;
+    base = h.base;
+    places = ap (λ n. remove n t) h.places;
+    shift = h.shift;
+  }
 
   -- another nice level
   renice_to_lower : (x y : Option State) → JoinAlike by x y → AreAlike renices.Range by (renice_to q x) (renice_to r y)
   renice_to_lower None y k = inl refl
   renice_to_lower (Some a) None k = inr (inl refl)
-  renice_to_lower (Some a) (Some b) k = inr (inr (refl, record { runnable = k.runnable; running = h.running; asleep = k.asleep; base = k.base }))
+  renice_to_lower (Some a) (Some b) k = inr (inr (refl, record { runnable = k.runnable; running = h.running; asleep = k.asleep; base = k.base; places = k.places; shift = k.shift }))
 
 -- of two queues that are what the others leave
 put_left : (by : ℤ) (q r a b : State) → IsLower by q r → IsLower by a b → (t : ℕ) (s s' : Sleeper) → s' ≡ s → AreAlike renices.Range by (renice_to q (put a t s)) (renice_to r (put b t s'))
@@ -275,7 +364,7 @@ module _ (by : ℤ) (q r : State) (h : IsLower by q r) where
   sleeper_set : (t : ℕ) (nice : ℤ) (slice : ℕ) (o : Option Sleeper) → AreAlike sets.Range by (set_sleeper q t nice slice o) (set_sleeper r t nice slice o)
   sleeper_set t nice slice None = inr (inr (refl, h))
   sleeper_set t nice slice (Some s) =
-      inr (inr (refl, record { runnable = h.runnable; running = h.running; asleep = ap (λ n. insert n t (sleeper_with s nice slice)) h.asleep; base = h.base }))
+      inr (inr (refl, record { runnable = h.runnable; running = h.running; asleep = ap (λ n. insert n t (sleeper_with s nice slice)) h.asleep; base = h.base; places = h.places; shift = h.shift }))
 
   set_by : (t : ℕ) (nice : ℤ) (slice : ℕ) (x : ReniceAnswer) (a b : State) → IsLower by a b
       → AreAlike sets.Range by (set_reniced q t nice slice x a) (set_reniced r t nice slice x b)
@@ -344,14 +433,18 @@ lowered_queue_answers_alike by q r h = record {
   tick = λ ns. subst (λ (o : Option ℕ). AreAlike ticks.Range by (tick q ns) (tick_running r o ns)) (sym h.running) (tick_run by q r h ns q.running);
   yields = subst (λ (o : Option ℕ). AreAlike yields.Range by (yield_now q) (yield_running r o)) (sym h.running) (yield_run by q r h q.running);
   wake = λ t. subst (λ n. AreAlike wakes.Range by (wake q t) (wake_sleeper r t (get n t))) (sym h.asleep) (wake_of by q r h t (get q.asleep t));
+  dozed_lag = dozed_lag_lower by q r h;
+  doze = λ t. subst (λ (o : Option Contents). IsLower by (doze q t) (dozed r t o)) (sym (runner_lower by q r h t)) (doze_of by q r h t (carried_running q t));
+  place = place_lower by q r h;
   renice = renice_lower by q r h;
   set_slice = slice_lower by q r h;
   set = λ t nice slice. set_alike by q r h t nice slice (renice q t nice).0 (renice r t nice).0 (renice q t nice).1 (renice r t nice).1 (renice_lower by q r h t nice);
   begin = λ t nice slice. subst (λ n. IsLower by (begin q t nice slice) (begin_sleeper r t nice slice (get n t))) (sym h.asleep) (begin_of by q r h t nice slice (get q.asleep t));
-  stopped = record { runnable = h.runnable; running = refl; asleep = h.asleep; base = h.base };
+  stopped = record { runnable = h.runnable; running = refl; asleep = h.asleep; base = h.base; places = h.places; shift = h.shift };
   put = put_lower by q r h;
   admit = λ p. join_at by q r h p.task p.start (p.start -ℤ by) p.nice p.slice refl;
-  put_asleep = λ p. record { runnable = h.runnable; running = h.running; asleep = ap (λ n. insert n p.task (record { lag = p.lag; nice = p.nice; slice = p.slice })) h.asleep; base = h.base };
+  put_asleep = λ p. record { runnable = h.runnable; running = h.running; asleep = ap (λ n. insert n p.task (record { lag = p.lag; nice = p.nice; slice = p.slice })) h.asleep; base = h.base; places = h.places; shift = h.shift };
+  put_dozing = dozing_lower by q r h;
   carried = carried_lower by q r h;
   left = leave_lower by q r h;
   carried_asleep = λ t. ap (λ n. option_map (leaving_asleep r t) (get n t)) h.asleep ∙ carried_asleep_of by q r h t (get q.asleep t);
@@ -365,6 +458,8 @@ rebased_is_lower q = record {
   runnable = refl;
   running = refl;
   asleep = refl;
+  places = refl;
+  shift = refl;
   base = λ none. none_then (virtual_time q) q.base (ap (λ (m : Tasks). time_over (total_weight m) (total_moment m) q.base) none ∙ base_over q.base);
 }
   where
@@ -385,10 +480,10 @@ runs_lowered : (by : ℤ) (m : Tasks) (r : Option ℕ) → RunnerIsHere m r → 
 runs_lowered by m None h = tt
 runs_lowered by m (Some t) h = contains-lowered by m t ∙ h
 
-pub sound_lowered : (m m' : Tasks) (r : Option ℕ) (n : Asleep) (b by : ℤ) → m' ≡ lowered_tasks by m → IsSound (record { runnable = m; running = r; asleep = n; base = b })
-    → IsSound (record { runnable = m'; running = r; asleep = n; base = pos 0 })
+pub sound_lowered : (m m' : Tasks) (r : Option ℕ) (n : Asleep) (b by : ℤ) → m' ≡ lowered_tasks by m → AreSound m r n b
+    → AreSound m' r n (pos 0)
 sound_lowered m m' r n b by is h =
-    subst (λ (x : Tasks). IsSound (record { runnable = x; running = r; asleep = n; base = pos 0 })) (sym is) (record {
+    subst (λ (x : Tasks). AreSound x r n (pos 0)) (sym is) (record {
       runs = runs_lowered by m r h.runs;
       apart = λ t here. h.apart t (sym (contains-lowered by m t) ∙ here);
       based = refl;

@@ -6,7 +6,7 @@ use Rattle.std.specs.FinMap.{FinMap, insert, remove, get, get-insert, get-remove
 use Rattle.std.proofs.lemmas.Bool.Decides.{nat_tests}
 use Rattle.eevdf_weight.specs.{Limits.is_in_range}
 use Rattle.eevdf_queue.specs.{declared.entry.Entry.Entry, State.State, State.Sleeper, Leaving.leave, Leaving.without_entry}
-use Rattle.eevdf_queue.specs.{Placing.runtime_of, Placing.placed_entry, Kept.IsSound}
+use Rattle.eevdf_queue.specs.{Placing.runtime_of, Placing.placed_entry, Kept.AreSound}
 use Rattle.eevdf_queue.specs.Sums.{Tasks, time_over, total_weight, total_moment}
 use Rattle.eevdf_queue.specs.Moves.{entry_in_range, fresh_entry, with_runnable}
 use Rattle.eevdf_queue.specs.Renice.{reniced, renice, renice_entry, renice_to}
@@ -56,7 +56,7 @@ has_level q task nice e f here placed =
 
 -- what the queue keeps
 pub sound_renice : (m m' : Tasks) (r : Option ℕ) (n : Asleep) (b b' : ℤ) (t : ℕ) (e f : Entry) → m' ≡ insert m t f → get m t ≡ Some e → is_in_range b' ≡ true
-    → IsSound (record { runnable = m; running = r; asleep = n; base = b }) → IsSound (record { runnable = m'; running = r; asleep = n; base = b' })
+    → AreSound m r n b → AreSound m' r n b'
 sound_renice m m' r n b b' t e f is here based h =
-    let kept : IsSound (record { runnable = m'; running = r; asleep = n; base = b }) = sound_change m m' r n b t f is (ap is_some here) h in
+    let kept : AreSound m' r n b = sound_change m m' r n b t f is (ap is_some here) h in
     record { runs = kept.runs; apart = kept.apart; based = based }

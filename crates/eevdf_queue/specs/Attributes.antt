@@ -38,9 +38,9 @@ fresh_sleeper nice slice = record { lag = pos 0; nice = nice; slice = slice }
 
 abbrev pub begin_sleeper : State → ℕ → ℤ → ℕ → Option Sleeper → State
 begin_sleeper q task nice slice None = q
-begin_sleeper q task nice slice (Some s) = record q { asleep = map.insert q.asleep task (fresh_sleeper nice slice) }
+begin_sleeper q task nice slice (Some s) = record q { asleep = map.insert q.asleep task (fresh_sleeper nice slice); places = map.remove q.places task }
 
--- the queue where a sleeping task begins anew; it stays as it is where the task doesn't sleep here
+-- the queue where a sleeping task begins anew, without a place where it dozes; it stays as it is where the task doesn't sleep here
 abbrev pub begin : State → ℕ → ℤ → ℕ → State
 begin q task nice slice = begin_sleeper q task nice slice (map.get q.asleep task)
 

@@ -26,7 +26,7 @@ stopped running task = if is_running running task then None else running
 abbrev pub without_entry : State → ℕ → Option Entry → State
 without_entry q task None = q
 without_entry q task (Some e) =
-    record { runnable = map.remove q.runnable task; running = stopped q.running task; asleep = q.asleep; base = e.v }
+    record q { runnable = map.remove q.runnable task; running = stopped q.running task; base = e.v }
 
 -- the queue without a runnable task
 abbrev pub leave : State → ℕ → State
@@ -48,9 +48,9 @@ carried_asleep q task = option_map (leaving_asleep q task) (map.get q.asleep tas
 
 abbrev pub without_sleeper : State → ℕ → Option Sleeper → State
 without_sleeper q task None = q
-without_sleeper q task (Some s) = record q { asleep = map.remove q.asleep task }
+without_sleeper q task (Some s) = record q { asleep = map.remove q.asleep task; places = map.remove q.places task }
 
--- the queue without a sleeping task
+-- the queue without a sleeping task, and without its place where it dozes
 abbrev pub leave_asleep : State → ℕ → State
 leave_asleep q task = without_sleeper q task (map.get q.asleep task)
 

@@ -14,6 +14,7 @@ pub mod Leaving
 pub mod Offers
 pub mod Placing
 pub mod Wake
+pub mod Doze
 pub mod Renice
 pub mod TreeTasks
 pub mod TreeLeast
@@ -27,6 +28,7 @@ pub mod Sides
 pub mod Kept
 pub mod Laws
 pub mod TreeStores
+pub mod NodePlaces
 pub mod Slots
 pub mod Trying
 pub mod Ascending

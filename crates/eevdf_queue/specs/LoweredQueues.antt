@@ -1,9 +1,9 @@
 -- A queue, and the same queue with all virtual times lower by a number.
-use Rattle.std.specs.Prelude.{◌≡◌, ℕ, ℤ, pos, ◌-ℤ◌, ◌*ℤ◌, ◌⊎◌, Option, Some, None}
+use Rattle.std.specs.Prelude.{◌≡◌, ℕ, ℤ, pos, ◌+ℤ◌, ◌-ℤ◌, ◌*ℤ◌, ◌⊎◌, Option, Some, None}
 use Rattle.std.specs.Option.{option_map}
 use Rattle.std.specs.FinMap as map
 use Rattle.eevdf_queue.specs.{State.State, State.Sleeper, State.Contents, Sums.total_weight, Sums.total_moment, Sums.virtual_time, Lag.lag_of, Pick.pick_of, Pick.after_pick, Pick.adopted}
-use Rattle.eevdf_queue.specs.{Candidate.candidate_of, Tick.tick, Yield.yield_now, Wake.wake, Renice.renice, SliceChange.set_slice, Attributes.set, Attributes.begin}
+use Rattle.eevdf_queue.specs.{Candidate.candidate_of, Tick.tick, Yield.yield_now, Wake.wake, Doze.dozed_lag, Doze.doze, Doze.put_dozing, Doze.place_of, Renice.renice, SliceChange.set_slice, Attributes.set, Attributes.begin}
 use Rattle.eevdf_queue.specs.{Kept.AreInRange, TimeToResched.ends_request, Closing.take_any}
 use Rattle.eevdf_queue.specs.{Moves.admit, Moves.put_asleep, Placing.put, Rebase.lowered_entry, Rebase.lowered_tasks, Rebase.rebased}
 use Rattle.eevdf_queue.specs.Leaving.{carried, leave, carried_asleep, leave_asleep, nobody_runs}
@@ -14,12 +14,15 @@ use Rattle.eevdf_queue.specs.declared.answers.ReniceAnswer.TheVariants as renice
 use Rattle.eevdf_queue.specs.declared.answers.SetAnswer.TheVariants as sets
 
 -- the queue `r` is the queue `q`, lower by a number. The time that stands counts where nothing is runnable: before it is
--- looked at again, a task that leaves makes it anew
+-- looked at again, a task that leaves makes it anew. Places stay, and the shift is greater by the number, so that a place is
+-- lower by it in the virtual times of now
 pub record IsLower (by : ℤ) (q r : State) : Type 0 where
   pub runnable : r.runnable ≡ lowered_tasks by q.runnable
   pub running : r.running ≡ q.running
   pub asleep : r.asleep ≡ q.asleep
   pub base : q.runnable ≡ map.empty → r.base ≡ q.base -ℤ by
+  pub places : r.places ≡ q.places
+  pub shift : r.shift ≡ q.shift +ℤ by
 
 -- two answers with what they leave: alike, unless one of them is that something would be out of range
 abbrev pub AreAlike : {A : Type 0} → A → ℤ → A × State → A × State → Type 0
@@ -54,6 +57,9 @@ pub record AnswerAlike (by : ℤ) (q r : State) : Type 0 where
   pub tick : (ns : ℕ) → AreAlike ticks.Range by (tick q ns) (tick r ns)
   pub yields : AreAlike yields.Range by (yield_now q) (yield_now r)
   pub wake : (t : ℕ) → AreAlike wakes.Range by (wake q t) (wake r t)
+  pub dozed_lag : (t : ℕ) → dozed_lag r t ≡ dozed_lag q t
+  pub doze : (t : ℕ) → IsLower by (doze q t) (doze r t)
+  pub place : (t : ℕ) → place_of r t ≡ option_map (λ (place : ℤ). place -ℤ by) (place_of q t)
   pub renice : (t : ℕ) (nice : ℤ) → AreAlike renices.Range by (renice q t nice) (renice r t nice)
   pub set_slice : (t slice : ℕ) → IsLower by (set_slice q t slice) (set_slice r t slice)
   pub set : (t : ℕ) (nice : ℤ) (slice : ℕ) → AreAlike sets.Range by (set q t nice slice) (set r t nice slice)
@@ -62,6 +68,7 @@ pub record AnswerAlike (by : ℤ) (q r : State) : Type 0 where
   pub put : (t : ℕ) (s : Sleeper) → JoinAlike by (put q t s) (put r t s)
   pub admit : (p : Contents) → JoinAlike by (admit q p) (admit r (lowered_contents by p))
   pub put_asleep : (p : Contents) → IsLower by (put_asleep q p) (put_asleep r p)
+  pub put_dozing : (p : Contents) → IsLower by (put_dozing q p) (put_dozing r (lowered_contents by p))
   pub carried : (t : ℕ) → carried r t ≡ option_map (lowered_contents by) (carried q t)
   pub left : (t : ℕ) → IsLower by (leave q t) (leave r t)
   pub carried_asleep : (t : ℕ) → carried_asleep r t ≡ option_map (lowered_contents by) (carried_asleep q t)

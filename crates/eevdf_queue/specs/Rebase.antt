@@ -1,5 +1,5 @@
 -- All virtual times of a queue lowered by one number, so that its virtual time is 0.
-use Rattle.std.specs.Prelude.{ℕ, ℤ, pos, ◌-ℤ◌, Bool, true, ◌&&◌, List, [], ◌∷◌, if◌then◌else◌}
+use Rattle.std.specs.Prelude.{ℕ, ℤ, pos, ◌^◌, ◌+ℤ◌, ◌-ℤ◌, nat_le, unsigned_abs, Bool, true, ◌&&◌, List, [], ◌∷◌, Option, Some, None, if◌then◌else◌}
 use Rattle.std.specs.FinMap as map
 use Rattle.eevdf_queue.specs.{declared.entry.Entry.Entry, State.State, Sums.Tasks, Sums.virtual_time, Moves.is_entry_in_range}
 
@@ -23,12 +23,19 @@ are_entries_in_range (e ∷ es) = is_entry_in_range e.1 && are_entries_in_range 
 abbrev pub can_lower : ℤ → Tasks → Bool
 can_lower by tasks = are_entries_in_range (lowered_entries by (map.entries tasks))
 
+-- whether a number may be a queue's shift: a rebase for each nanosecond of thirty-six years stays below the limit
+abbrev pub is_shift : ℤ → Bool
+is_shift z = nat_le (unsigned_abs z) (2 ^ 120)
+
+abbrev pub checked_shift : ℤ → Option ℤ
+checked_shift z = if is_shift z then Some z else None
+
 -- whether the virtual time of a queue can be made 0
 abbrev pub can_rebase : State → Bool
-can_rebase q = can_lower (virtual_time q) q.runnable
+can_rebase q = is_shift (q.shift +ℤ virtual_time q) && can_lower (virtual_time q) q.runnable
 
 abbrev pub rebased : State → State
-rebased q = record q { runnable = lowered_tasks (virtual_time q) q.runnable; base = pos 0 }
+rebased q = record q { runnable = lowered_tasks (virtual_time q) q.runnable; base = pos 0; shift = q.shift +ℤ virtual_time q }
 
 -- the deed: the number by which all is lower, and the queue afterwards
 abbrev pub rebase : State → ℤ × State

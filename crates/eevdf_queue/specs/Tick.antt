@@ -6,6 +6,14 @@ use Rattle.eevdf_queue.specs.{declared.entry.Entry.Entry, declared.answers.TickA
 use Rattle.eevdf_queue.specs.{Moves.fresh_entry, Moves.is_entry_in_range}
 use Rattle.eevdf_queue.specs.declared.answers.TickAnswer.TheVariants.{Charged, Idle, Range}
 
+-- the entry of whoever runs
+abbrev pub entry_of_runner : State → Option ℕ → Option Entry
+entry_of_runner q None = None
+entry_of_runner q (Some task) = map.get q.runnable task
+
+abbrev pub running_entry : State → Option Entry
+running_entry q = entry_of_runner q q.running
+
 -- the virtual runtime after so many nanoseconds
 abbrev pub aged : Entry → ℕ → ℤ
 aged e ns = e.v +ℤ pos (charge_of ns (weight_of e.nice))

@@ -19,8 +19,9 @@ pub fn some_task_is_eligible()
     ensures { SomeTaskIsEligible }
 {}
 
-/// What every queue keeps: whoever runs is runnable, no task is both runnable and asleep, numbers are below
-/// 1024, virtual runtimes, deadlines and the virtual time are in range, and lags are within their limits.
+/// What every queue keeps: whoever runs is runnable, no task is both runnable and asleep, only a task that sleeps has a place,
+/// no runnable task is past its own deadline, numbers are below 1024, virtual runtimes, deadlines and the virtual time are in range,
+/// lags are within their limits, and what all rebases have answered is at most 2^120 either way.
 pub fn every_queue(queue: &Queue)
     ensures { IsKept queue.now.state }
 {

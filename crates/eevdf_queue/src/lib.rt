@@ -13,6 +13,7 @@ mod entry;
 mod lag;
 pub mod laws;
 mod parcel;
+mod place;
 mod queue;
 mod refusal;
 mod request;

@@ -7,7 +7,7 @@ use crate::block::Block;
 use crate::entry::Entry;
 use crate::room::Room;
 use crate::sleeper::Sleeper;
-use crate::task::{Task, sleeper_of};
+use crate::task::{Task, keeping, sleeper_of};
 use crate::task_id::TaskId;
 use crate::tree::node::TreeNode;
 use eevdf_weight::{Nice, Slice};
@@ -194,16 +194,8 @@ impl Parcel {
         requires { is_lag sleeper.now.lag sleeper.now.nice sleeper.now.slice ≡ true }
         ensures { result ≡ attributes.bringing self sleeper.now }
     {
-        let task = self.node.task();
-        self.node.replace(Task {
-            number: task.number,
-            entry: Entry {
-                nice: sleeper.nice,
-                slice: sleeper.slice,
-                ..task.entry
-            },
-            lag: sleeper.lag,
-        });
+        let task = keeping(&self.node.task(), sleeper);
+        self.node.replace(task);
         self
     }
 

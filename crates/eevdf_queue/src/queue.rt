@@ -5,10 +5,13 @@ ghost use Rattle.eevdf_weight.specs.Limits as limits;
 ghost use Rattle.eevdf_queue.specs.{State.empty_state, Sums.total_weight, Sums.virtual_time, Kept.IsKept, Laws.AreSumsSmall};
 ghost use Rattle.eevdf_queue.specs.Leaving.{IsNowhere};
 ghost use Rattle.eevdf_queue.specs.Candidate as candidates;
+ghost use Rattle.eevdf_queue.specs.Doze as dozes;
 ghost use Rattle.eevdf_queue.specs.Lag as lags;
+ghost use Rattle.eevdf_queue.specs.Tick.{running_entry};
 
 mod attributes;
 mod closing;
+mod dozing;
 mod moves;
 mod offer;
 mod placing;
@@ -22,6 +25,7 @@ mod turns;
 
 use crate::entry::Entry;
 use crate::lag::kept_lag;
+use crate::place::runtime_at;
 use crate::sleeper::Sleeper;
 use crate::sleepers::Sleepers;
 use crate::task_id::TaskId;
@@ -31,11 +35,13 @@ pub use offer::Offer;
 use std::marker::Model;
 pub use tasks::{Runnable, Sleeping};
 
-/// The run queue of one CPU. It has 24672 bytes on x86-64, whatever it holds, and each of its tasks 152 more, in a node.
+/// The run queue of one CPU. It has 24688 bytes on x86-64, whatever it holds, and each of its tasks 152 more, in a node.
 #[derive(Drop)]
 pub struct Queue {
     runnable: RunnableTasks,
     asleep: Sleepers,
+    /// What the rebases have answered, in all. After the base it would have 8 bytes of padding before it.
+    shift: i128,
     base: i64,
     running: Option<TaskId>,
     /// How deep the node of the last pick stood. With 32 bits it would leave no room for the count, and a queue would have 16
@@ -54,17 +60,19 @@ impl Model for Queue {
 
     ghost coded = { view_code };
 
-    ghost use Rattle.eevdf_queue.specs.Kept.{IsSound};
+    ghost use Rattle.std.specs.Prelude.{true};
+    ghost use Rattle.eevdf_queue.specs.{Kept.AreSound, Kept.NoneIsPastDue, Rebase.is_shift};
 
     ghost view = { λ a. record {
-      state = record { runnable = a.runnable.tasks; running = a.running; asleep = a.asleep; base = a.base };
+      state = record { runnable = a.runnable.tasks; running = a.running; asleep = a.asleep.tasks; base = a.base; places = a.asleep.places; shift = a.shift };
       pick_depth = a.pick_depth;
       depths = a.runnable.depths;
     } };
 
-    ghost invariant = { λ a. IsSound
-        (record { runnable = a.runnable.tasks; running = a.running; asleep = a.asleep; base = a.base })
-        × (a.asleep_count ≡ finite.len a.asleep) };
+    ghost invariant = { λ a. AreSound a.runnable.tasks a.running a.asleep.tasks a.base
+        × (a.asleep_count ≡ finite.len a.asleep.tasks)
+        × (is_shift a.shift ≡ true)
+        × NoneIsPastDue a.runnable.tasks };
 }
 
 impl Queue {
@@ -75,6 +83,7 @@ impl Queue {
         Queue {
             runnable: RunnableTasks::new(),
             asleep: Sleepers::new(),
+            shift: 0,
             base: 0,
             running: None,
             pick_depth: 0,
@@ -115,6 +124,16 @@ impl Queue {
         ensures { result ≡ map.get self.now.state.runnable task }
     {
         self.runnable.look_up(task)
+    }
+
+    /// The entry of the task that runs, and `None` where nobody runs. It takes no search where that task was picked last.
+    pub fn running_entry(&self) -> Option<Entry>
+        ensures { result ≡ running_entry self.now.state }
+    {
+        match self.running {
+            None => None,
+            Some(task) => self.runnable.get(task),
+        }
     }
 
     /// The virtual time: the weighted mean of the virtual runtimes, rounded down. Where nothing is runnable,
@@ -172,6 +191,17 @@ impl Queue {
     {
         self.asleep.keeps();
         self.asleep.get(task)
+    }
+
+    /// The place of a task that dozes here, in the virtual times of now: the virtual runtime at which it left, less what the
+    /// rebases since have answered. `None` of any other.
+    pub fn place_of(&self, task: TaskId) -> Option<i128>
+        ensures { result ≡ dozes.place_of self.now.state task }
+    {
+        match self.asleep.place(task) {
+            None => None,
+            Some(place) => Some(runtime_at(place, self.shift)),
+        }
     }
 
     /// Whether a task sleeps here.

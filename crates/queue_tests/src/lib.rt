@@ -6,6 +6,8 @@ mod attributes;
 #[cfg(test)]
 mod calls;
 #[cfg(test)]
+mod dozes;
+#[cfg(test)]
 mod fixtures;
 #[cfg(test)]
 mod queue_calls;

@@ -47,7 +47,7 @@ impl Queue {
     }
 
     /// Lets a task that sleeps here begin anew: it sleeps on as one that has just been made, with this nice level and slice and the
-    /// lag 0. Answers whether it sleeps here; where it doesn't, nothing has changed.
+    /// lag 0, and without a place. Answers whether it sleeps here; where it doesn't, nothing has changed.
     pub fn begin(&mut self, task: TaskId, nice: Nice, slice: Slice) -> bool
         ensures begun { result ≡ map.contains_key self.old.state.asleep task }
         ensures after { self.new.state ≡ attributes.begin self.old.state task nice slice }
@@ -61,11 +61,25 @@ impl Queue {
             nice,
             slice,
         };
-        self.keep_asleep(task, &fresh);
+        self.begin_asleep(task, &fresh);
         true
     }
 
-    /// Keeps this of a task that sleeps here.
+    /// Keeps this of a task that sleeps here, and no place.
+    fn begin_asleep(&mut self, task: TaskId, sleeper: &Sleeper)
+        requires here { map.contains_key self.old.state.asleep task ≡ true }
+        requires limited { is_lag sleeper.now.lag sleeper.now.nice sleeper.now.slice ≡ true }
+        ensures after { self.new.state ≡ record self.old.state {
+          asleep = map.insert self.old.state.asleep task sleeper.now;
+          places = map.remove self.old.state.places task;
+        } }
+        ensures pick_depth { self.new.pick_depth ≡ self.old.pick_depth }
+    {
+        let parcel = self.asleep.remove(task);
+        self.asleep.add(parcel.bringing(sleeper));
+    }
+
+    /// Keeps this of a task that sleeps here, and its place where it dozes.
     pub(crate) fn keep_asleep(&mut self, task: TaskId, sleeper: &Sleeper)
         requires here { map.contains_key self.old.state.asleep task ≡ true }
         requires limited { is_lag sleeper.now.lag sleeper.now.nice sleeper.now.slice ≡ true }
@@ -73,7 +87,6 @@ impl Queue {
             ≡ record self.old.state { asleep = map.insert self.old.state.asleep task sleeper.now } }
         ensures pick_depth { self.new.pick_depth ≡ self.old.pick_depth }
     {
-        let parcel = self.asleep.remove(task);
-        self.asleep.add(parcel.bringing(sleeper));
+        self.asleep.change(task, sleeper);
     }
 }

@@ -1,6 +1,6 @@
 //! How tasks come into a queue and leave it.
 
-ghost use Rattle.std.specs.Prelude.{◌≡◌, ◌↔◌, Some, None, IfSome, IsNone, MatchResult, true, false};
+ghost use Rattle.std.specs.Prelude.{◌≡◌, ◌↔◌, ◌≤ℤ◌, Some, None, IfSome, IsNone, MatchResult, true, false};
 ghost use Rattle.std.specs.FinMap as map;
 ghost use Rattle.eevdf_queue.specs.Moves as moves;
 ghost use Rattle.eevdf_queue.specs.{Candidate.is_running, Lag.is_lag};
@@ -12,7 +12,7 @@ use crate::answers::WakeAnswer;
 use crate::entry::Entry;
 use crate::parcel::Parcel;
 use crate::queue::Queue;
-use crate::queue::placing::{is_roomy, placed_entry};
+use crate::queue::placing::{is_roomy, placed_entry, placed_from};
 use crate::request::started;
 use crate::running::{is_running, stop};
 use crate::sleeper::Sleeper;
@@ -100,8 +100,8 @@ impl Queue {
         }
     }
 
-    /// Takes out a sleeping task, with the lag that it kept, to start at the queue's virtual time. `None` exactly where the
-    /// task doesn't sleep here, and then nothing has changed.
+    /// Takes out a sleeping task, with the lag that it kept and without its place, to start at the queue's virtual time. `None`
+    /// exactly where the task doesn't sleep here, and then nothing has changed.
     pub fn detach_asleep(&mut self, task: TaskId) -> Option<Parcel>
         ensures parcel { result ≡ carried_asleep self.old.state task }
         ensures task { IfSome result (λ parcel. parcel.task ≡ task) }
@@ -174,9 +174,31 @@ impl Queue {
         self.runnable.add(parcel, entry);
     }
 
-    /// Makes a task that sleeps here runnable with the lag that it kept, placed as by `attach`. `Awake` where it
-    /// doesn't sleep here; `Range` where its virtual runtime or deadline would be out of range, and then it sleeps on.
+    /// Makes a task that sleeps here runnable with the lag that it kept, placed as by `attach`, and one that dozes no earlier than
+    /// at its place. `Awake` where it doesn't sleep here; `Range` where its virtual runtime or deadline would be out of range, and
+    /// then it sleeps on.
     pub fn wake(&mut self, task: TaskId) -> WakeAnswer
+        ensures answer { result ≡ (wakes.wake self.old.state task).0 }
+        ensures after { self.new.state ≡ (wakes.wake self.old.state task).1 }
+        ensures pick_depth { self.new.pick_depth ≡ self.old.pick_depth }
+    {
+        if self.asleep.dozes(task) {
+            return self.wake_at_place(task);
+        }
+        let Some(sleeper) = self.asleep.get(task) else {
+            return WakeAnswer::Awake;
+        };
+        self.asleep.keeps();
+        let Some(entry) = self.placed(&sleeper) else {
+            return WakeAnswer::Range;
+        };
+        self.rise(task, entry);
+        WakeAnswer::Woken
+    }
+
+    /// The same, whether it has a place or not: apart from `wake`, so that one without a place is spared what a place takes.
+    #[inline(never)]
+    fn wake_at_place(&mut self, task: TaskId) -> WakeAnswer
         ensures answer { result ≡ (wakes.wake self.old.state task).0 }
         ensures after { self.new.state ≡ (wakes.wake self.old.state task).1 }
         ensures pick_depth { self.new.pick_depth ≡ self.old.pick_depth }
@@ -185,13 +207,45 @@ impl Queue {
             return WakeAnswer::Awake;
         };
         self.asleep.keeps();
-        let Some(entry) = self.placed(&sleeper) else {
+        let Some(entry) = self.waking(task, &sleeper) else {
             return WakeAnswer::Range;
         };
+        self.rise(task, entry);
+        WakeAnswer::Woken
+    }
+
+    /// Makes a task that sleeps here runnable with this entry.
+    #[inline(always)]
+    fn rise(&mut self, task: TaskId, entry: Entry)
+        requires here { map.contains_key self.old.state.asleep task ≡ true }
+        requires in_range { moves.is_entry_in_range entry ≡ true }
+        requires due { entry.v ≤ℤ entry.d }
+        ensures after { self.new.state ≡ record self.old.state {
+          runnable = map.insert self.old.state.runnable task entry;
+          asleep = map.remove self.old.state.asleep task;
+          places = map.remove self.old.state.places task;
+        } }
+        ensures pick_depth { self.new.pick_depth ≡ self.old.pick_depth }
+    {
         let parcel = self.asleep.remove(task);
         self.asleep_count -= 1;
         self.runnable.add(parcel, entry);
-        WakeAnswer::Woken
+    }
+
+    /// The entry of a task that wakes. `None` exactly where it would be out of range.
+    fn waking(&self, task: TaskId, sleeper: &Sleeper) -> Option<Entry>
+        requires { is_lag sleeper.now.lag sleeper.now.nice sleeper.now.slice ≡ true }
+        ensures { result ≡ wakes.waking_entry self.now.state sleeper.now (map.get self.now.state.places task) }
+    {
+        match self.place_of(task) {
+            None => self.placed(sleeper),
+            Some(place) => placed_from(
+                place,
+                self.floor_time(),
+                self.runnable.totals().weight,
+                sleeper,
+            ),
+        }
     }
 
     /// The entry of a task that joins. `None` exactly where it would be out of range.

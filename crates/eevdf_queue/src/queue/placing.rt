@@ -1,6 +1,7 @@
 //! Where a task with a lag is placed when it joins a queue.
 
 ghost use Rattle.std.specs.Prelude.{◌≡◌, ◌==◌, ◌≤◌, ◌^◌, if◌then◌else◌, true};
+ghost use Rattle.std.specs.Int.{int_max};
 ghost use Rattle.eevdf_weight.specs.Limits as limits;
 ghost use Rattle.eevdf_weight.specs.Placement.{within_range};
 ghost use Rattle.eevdf_queue.specs.{Lag.is_lag, Moves.entry_in_range, Moves.fresh_entry, Placing.runtime_of, Placing.IsRoomy};
@@ -23,12 +24,46 @@ pub fn placed_entry(time: i64, total: u64, sleeper: &Sleeper) -> Option<Entry>
 {
     match runtime(time, total, sleeper) {
         None => None,
-        Some(v) => started(&Entry {
-            v,
-            d: v,
-            nice: sleeper.nice,
-            slice: sleeper.slice,
-        }),
+        Some(v) => started_at(v, sleeper),
+    }
+}
+
+/// The entry of a task that joins them so, but no earlier than at a place. `None` exactly where it would be out of range.
+pub fn placed_from(place: i128, time: i64, total: u64, sleeper: &Sleeper) -> Option<Entry>
+    requires time { limits.is_in_range time ≡ true }
+    requires few { total ≤ 2 ^ 40 }
+    requires limited { is_lag sleeper.now.lag sleeper.now.nice sleeper.now.slice ≡ true }
+    ensures { result ≡ entry_in_range
+        (fresh_entry (int_max place (runtime_of time total sleeper.now.lag sleeper.now.nice))
+        sleeper.now.nice sleeper.now.slice) }
+{
+    match runtime(time, total, sleeper) {
+        Some(v) => started_from(place.max(i128::from(v)), sleeper),
+        // beyond the range: after it where the task owes, before it where the task is owed
+        None if sleeper.lag < 0 => None,
+        None => started_from(place, sleeper),
+    }
+}
+
+/// The entry of a task at a virtual runtime. `None` exactly where it would be out of range.
+fn started_at(v: i64, sleeper: &Sleeper) -> Option<Entry>
+    ensures { result ≡ entry_in_range (fresh_entry v sleeper.now.nice sleeper.now.slice) }
+{
+    started(&Entry {
+        v,
+        d: v,
+        nice: sleeper.nice,
+        slice: sleeper.slice,
+    })
+}
+
+/// The same at one that may be far out of range.
+fn started_from(v: i128, sleeper: &Sleeper) -> Option<Entry>
+    ensures { result ≡ entry_in_range (fresh_entry v sleeper.now.nice sleeper.now.slice) }
+{
+    match i64::try_from(v) {
+        Ok(v) => started_at(v, sleeper),
+        Err(_) => None,
     }
 }
 

@@ -152,6 +152,18 @@ impl TreeNode {
         self.kept.least = Least::of(&self.parts.task);
     }
 
+    /// Gives another deadline to the task of a node that is alone.
+    #[inline(always)]
+    pub fn replace_deadline(&mut self, deadline: i64)
+        requires { IsAlone self.old }
+        ensures { self.new.tasks
+            ≡ record (first_task self.old.tasks) {
+              entry = record (first_task self.old.tasks).entry { d = deadline };
+            } ∷ [] }
+    {
+        self.parts.task.entry.d = deadline;
+    }
+
     /// Gives another lag to the task of a node that is alone.
     pub fn replace_lag(&mut self, lag: i64)
         requires { IsAlone self.old }

@@ -15,7 +15,8 @@ use crate::tree::lowering::lowered;
 
 /// Lowers the virtual runtimes and the deadlines of the tasks below a link, notes these in the table, and answers whether all
 /// are in range afterwards.
-#[tactic(auto, using(crate::proofs::LoweredLists::depths_lowered, crate::proofs::LoweredLists::noted_around))]
+#[cycle(lower)]
+#[inline(always)]
 pub fn lower(link: &mut Option<Box<TreeNode>>, deadlines: &mut DeadlineTable, by: i64) -> bool
     requires near { AllByRecursion IsNear (tasks_in link.old) }
     requires small { unsigned_abs by ≤ 2 ^ 60 }
@@ -26,8 +27,25 @@ pub fn lower(link: &mut Option<Box<TreeNode>>, deadlines: &mut DeadlineTable, by
         ≡ noted_or (kept_at deadlines.old q) (find_task q (tasks_in link.new)) }
     ensures in_range { result ≡ are_tasks_in_range (tasks_in link.new) }
 {
-    let Some(node) = link else { return true };
-    let node: &mut TreeNode = node;
+    match link {
+        None => true,
+        Some(node) => lower_node(node, deadlines, by),
+    }
+}
+
+/// The same of a node. It stands apart so that nothing is called where no node is below a link, as below most.
+#[cycle(lower)]
+#[tactic(auto, using(crate::proofs::LoweredLists::depths_lowered, crate::proofs::LoweredLists::noted_around))]
+fn lower_node(node: &mut TreeNode, deadlines: &mut DeadlineTable, by: i64) -> bool
+    requires near { AllByRecursion IsNear node.old.tasks }
+    requires small { unsigned_abs by ≤ 2 ^ 60 }
+    ensures tasks { node.new.tasks ≡ lowered_list by node.old.tasks }
+    ensures height { node.new.height ≡ node.old.height }
+    ensures depths { node.new.depths ≡ node.old.depths }
+    ensures noted { (q : ℕ) → kept_at deadlines.new q
+        ≡ noted_or (kept_at deadlines.old q) (find_task q node.new.tasks) }
+    ensures in_range { result ≡ are_tasks_in_range node.new.tasks }
+{
     let right = lower(&mut node.parts.sides.right, deadlines, by);
     let own = lower_task(&mut node.parts.task, by);
     deadlines.note(node.parts.task.number, &node.parts.task.entry);

@@ -10,10 +10,12 @@ pub invariant_of-self : goal.invariant_of-self
 invariant_of-self c = (
   sound_sleeper_leaves _ _ _ _ _ _ c.remove.ensures.rest c.self.invariant.0,
   one_less _ _ _ _ c.self.invariant.1 c.remove.ensures.rest (ap is_some c.remove.ensures.parcel),
+  c.self.invariant.2,
+  c.self.invariant.3,
 )
 
 pub returns-clause-nowhere : goal.returns-clause-nowhere
 returns-clause-nowhere c =
-    let here : contains_key c.self.inside.asleep c.args.task ≡ true = ap is_some c.remove.ensures.parcel in
+    let here : contains_key c.self.inside.asleep.tasks c.args.task ≡ true = ap is_some c.remove.ensures.parcel in
     let same : c.starting_at.result.task ≡ c.args.task = search in
-    nowhere_woken _ _ _ _ _ _ _ c.remove.ensures.rest here same c.self.invariant.0
+    nowhere_woken _ _ _ _ _ _ _ _ _ c.remove.ensures.rest here same c.self.invariant.0

@@ -1,30 +1,18 @@
 use Rattle.std.proofs.Common.{◌≡◌, true, ap, ◌∙◌}
-use Rattle.std.specs.FinMap.{get, contains_key, insert}
-use Rattle.eevdf_queue.specs.{State.State, State.View, State.Contents}
-use Rattle.eevdf_queue.proofs.{KeptAsleep.put_back, AsleepCounts.as_many, Sound.Asleep, Sound.gone, Sound.sound_kept}
+use Rattle.std.specs.FinMap.{contains_key, insert}
+use Rattle.eevdf_queue.specs.{State.State, State.View}
+use Rattle.eevdf_queue.proofs.{AsleepCounts.as_many, Sound.Asleep, Sound.Places, Sound.sound_kept}
 use Rattle.eevdf_queue.proofs.queue.Queue.keep_asleep.Goals as goal
-use Rattle.eevdf_queue.proofs.queue.Queue.keep_asleep.Goals.{After-add}
-
-pub add-requires : goal.add-requires
-add-requires c =
-    ap (get c.remove-parcel.new.self) (ap (λ (p : Contents). p.task) c.bringing.ensures ∙ c.remove-parcel.ensures.task)
-    ∙ ap (λ (n : Asleep). get n c.args.task) c.remove-parcel.ensures.rest ∙ gone c.self.inside.asleep c.args.task
-
--- the sleeping tasks afterwards
-asleep_after : (c : After-add) → c.add.new.self ≡ insert c.self.inside.asleep c.args.task c.args.sleeper.now
-asleep_after c =
-    put_back c.self.inside.asleep c.remove-parcel.new.self c.add.new.self c.args.task c.remove-parcel.result c.bringing.result c.args.sleeper.now
-    c.remove-parcel.ensures.rest c.remove-parcel.ensures.task c.bringing.ensures c.add.ensures
 
 pub invariant_of-self : goal.invariant_of-self
 invariant_of-self c =
-    let after = asleep_after (goal.at.invariant_of-self c).After-add in
-    let here : contains_key c.self.inside.asleep c.args.task ≡ true = ap (λ (w : View). contains_key w.state.asleep c.args.task) c.self.view_is ∙ c.requires.here in
-    (sound_kept _ _ _ _ _ _ _ after here c.self.invariant.0, as_many _ _ _ _ c.self.invariant.1 _ after here)
+    let here : contains_key c.self.inside.asleep.tasks c.args.task ≡ true = ap (λ (w : View). contains_key w.state.asleep c.args.task) c.self.view_is ∙ c.requires.here in
+    (sound_kept _ _ _ _ _ _ _ c.change.ensures.tasks here c.self.invariant.0, as_many _ _ _ _ c.self.invariant.1 _ c.change.ensures.tasks here, c.self.invariant.2, c.self.invariant.3)
 
 pub returns-clause-after : goal.returns-clause-after
 returns-clause-after c =
     let a = c.self.inside in
-    let q : State = record { runnable = a.runnable.tasks; running = a.running; asleep = a.asleep; base = a.base } in
-    ap (λ (n : Asleep). record q { asleep = n }) (asleep_after (goal.at.returns-clause-after c).After-add)
+    let q : State = record { runnable = a.runnable.tasks; running = a.running; asleep = a.asleep.tasks; base = a.base; places = a.asleep.places; shift = a.shift } in
+    ap (λ (n : Asleep). record q { asleep = n; places = c.change.new.self.places }) c.change.ensures.tasks
+    ∙ ap (λ (p : Places). record q { asleep = insert a.asleep.tasks c.args.task c.args.sleeper.now; places = p }) c.change.ensures.places
     ∙ ap (λ (w : View). record w.state { asleep = insert w.state.asleep c.args.task c.args.sleeper.now }) c.self.view_is

@@ -6,7 +6,7 @@ use mir.Val.{SFits}
 use Rattle.eevdf_weight.specs.Limits.{is_in_range}
 use Rattle.eevdf_queue.specs.{declared.answers.ReniceAnswer.ReniceAnswer, State.State, State.View, Leaving.leave, Placing.placed_entry}
 use Rattle.eevdf_queue.specs.Renice as renices
-use Rattle.eevdf_queue.proofs.Joining.{placed_in_range}
+use Rattle.eevdf_queue.proofs.{DueTasks.placed_due, DueTasks.due_written, Joining.placed_in_range}
 use Rattle.eevdf_queue.proofs.Renicing.{not_here, out_of_range, has_level, after_renice, sound_renice}
 use Rattle.eevdf_queue.proofs.queue.Queue.renice.Goals as goal
 
@@ -50,7 +50,9 @@ pub invariant_of-self : goal.invariant_of-self
 invariant_of-self c =
     let v : ℤ = c.in-Some.entry.v in
     let fits : SFits w64 v = search rules in
-    (sound_renice _ _ _ _ _ _ c.args.task c.in-Some.entry c.in-Some-reniced.reniced c.set.ensures (sym c.in-Some.ensures) (ap is_in_range (to_z-of_z w64 v fits) ∙ c.keeps_in_range.ensures) c.self.invariant.0, c.self.invariant.1)
+    let timely =
+    placed_due (leave c.args.self.now.state c.args.task) (renices.reniced c.args.self.now.state c.in-Some.entry c.args.nice) c.in-Some-reniced.reniced (sym c.in-Some-reniced.ensures) in
+    (sound_renice _ _ _ _ _ _ c.args.task c.in-Some.entry c.in-Some-reniced.reniced c.set.ensures (sym c.in-Some.ensures) (ap is_in_range (to_z-of_z w64 v fits) ∙ c.keeps_in_range.ensures) c.self.invariant.0, c.self.invariant.1, c.self.invariant.2, due_written _ _ _ _ c.set.ensures timely c.self.invariant.3)
 
 pub returns-clause-answer : goal.returns-clause-answer
 returns-clause-answer c =
@@ -60,7 +62,7 @@ returns-clause-answer c =
 pub returns-clause-after : goal.returns-clause-after
 returns-clause-after c =
     let a = c.self.inside in
-    let q : State = record { runnable = a.runnable.tasks; running = a.running; asleep = a.asleep; base = a.base } in
+    let q : State = record { runnable = a.runnable.tasks; running = a.running; asleep = a.asleep.tasks; base = a.base; places = a.asleep.places; shift = a.shift } in
     let e = c.in-Some.entry in
     let v : ℤ = e.v in
     let fits : SFits w64 v = search rules in

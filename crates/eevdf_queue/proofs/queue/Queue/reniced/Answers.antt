@@ -12,7 +12,7 @@ use Rattle.eevdf_queue.proofs.queue.Queue.reniced.Goals as goal
 pub returns : goal.returns
 returns c =
     let a = c.self.inside in
-    let q : State = record { runnable = a.runnable.tasks; running = a.running; asleep = a.asleep; base = a.base } in
+    let q : State = record { runnable = a.runnable.tasks; running = a.running; asleep = a.asleep.tasks; base = a.base; places = a.asleep.places; shift = a.shift } in
     let s : Sleeper = c.as_sleeper-sleeper.result in
     let others = c.totals_without-others in
     let time : ℤ = c.time_after.result in

@@ -4,7 +4,7 @@ use Rattle.eevdf_queue.specs.{declared.answers.TickAnswer.TickAnswer, declared.e
 use Rattle.eevdf_queue.specs.{Moves.is_entry_in_range}
 use Rattle.eevdf_queue.specs.Tick.{charged, is_used_up, tick, tick_entry, tick_running}
 use Rattle.eevdf_queue.specs.declared.answers.TickAnswer.TheVariants.{Charged, Range}
-use Rattle.eevdf_queue.proofs.Sound.{entry_written, sound_change}
+use Rattle.eevdf_queue.proofs.{DueTasks.charged_in_time, DueTasks.due_written, Sound.entry_written, Sound.sound_change}
 use Rattle.eevdf_queue.proofs.queue.Queue.tick.Goals as goal
 
 -- what comes of a charge, by whether it leads out of range
@@ -29,7 +29,7 @@ returns-then-not-charged-clause-after c =
     let e = c.in-Some.runner.entry in
     let is : is_entry_in_range (charged e c.args.ns) ≡ true =
     ap is_entry_in_range (sym c.charged-charged.ensures.entry) ∙ c.charged-charged.ensures.kept c.if-not-charged.true in
-    entry_written _ _ _ _ _ task (charged e c.args.ns) _ _ c.age.ensures c.charged-charged.ensures.entry (ap (λ (w : View). w.state) c.self.view_is)
+    entry_written _ _ _ _ _ _ _ task (charged e c.args.ns) _ _ c.age.ensures c.charged-charged.ensures.entry (ap (λ (w : View). w.state) c.self.view_is)
     ∙ sym (ap (λ (p : TickAnswer × State). p.1) (ticked c.args.self.now.state task c.args.ns e true c.in-Some.ensures.task c.in-Some.ensures.entry is))
 
 pub returns-then-not-is_deadline_in_range-clause-answer : goal.returns-then-not-is_deadline_in_range-clause-answer
@@ -52,11 +52,11 @@ renew-requires-clause-in_range c =
 
 pub invariant_of-self : goal.invariant_of-self
 invariant_of-self c =
-    (sound_change _ _ _ _ _ _ _ c.age.ensures (ap (λ (v : View). contains_key v.state.runnable c.in-Some.runner.task) c.self.view_is ∙ ap is_some c.in-Some.ensures.entry) c.self.invariant.0, c.self.invariant.1)
+    (sound_change _ _ _ _ _ _ _ c.age.ensures (ap (λ (v : View). contains_key v.state.runnable c.in-Some.runner.task) c.self.view_is ∙ ap is_some c.in-Some.ensures.entry) c.self.invariant.0, c.self.invariant.1, c.self.invariant.2, due_written _ _ _ _ c.age.ensures (charged_in_time _ _ _ c.charged-charged.ensures.entry) c.self.invariant.3)
 
 pub invariant_of-self-2 : goal.invariant_of-self-2
 invariant_of-self-2 c =
-    (sound_change _ _ _ _ _ _ _ c.renew.ensures (ap (λ (v : View). contains_key v.state.runnable c.in-Some.runner.task) c.self.view_is ∙ ap is_some c.in-Some.ensures.entry) c.self.invariant.0, c.self.invariant.1)
+    (sound_change _ _ _ _ _ _ _ c.renew.ensures (ap (λ (v : View). contains_key v.state.runnable c.in-Some.runner.task) c.self.view_is ∙ ap is_some c.in-Some.ensures.entry) c.self.invariant.0, c.self.invariant.1, c.self.invariant.2, due_written _ _ _ _ c.renew.ensures (charged_in_time _ _ _ c.charged-charged.ensures.entry) c.self.invariant.3)
 
 pub returns-clause-answer : goal.returns-clause-answer
 returns-clause-answer c =
@@ -72,5 +72,5 @@ returns-clause-after c =
     let e = c.in-Some.runner.entry in
     let is : is_entry_in_range (charged e c.args.ns) ≡ true =
     ap is_entry_in_range (sym c.charged-charged.ensures.entry) ∙ sym (c.charged-charged.ensures.renewed c.if-not-charged.false) ∙ sym c.is_deadline_in_range.ensures ∙ c.if-not-is_deadline_in_range.false in
-    entry_written _ _ _ _ _ task (charged e c.args.ns) _ _ c.renew.ensures c.charged-charged.ensures.entry (ap (λ (w : View). w.state) c.self.view_is)
+    entry_written _ _ _ _ _ _ _ task (charged e c.args.ns) _ _ c.renew.ensures c.charged-charged.ensures.entry (ap (λ (w : View). w.state) c.self.view_is)
     ∙ sym (ap (λ (p : TickAnswer × State). p.1) (ticked c.args.self.now.state task c.args.ns e true c.in-Some.ensures.task c.in-Some.ensures.entry is))
