@@ -5,7 +5,7 @@ use Rattle.std.specs.{List.AllByRecursion, FinMap.contains_key}
 use Rattle.std.proofs.lemmas.Bool.{false≢true}
 use Rattle.eevdf_queue.specs.{State.State, State.Contents, Pick.pick_of, Laws.PickIsFirst, Laws.PickOfNobody}
 use Rattle.eevdf_ops.specs.{declared.deeds.Deed.Deed, declared.deeds.Answer.Answer}
-use Rattle.eevdf_ops.specs.declared.deeds.Deed.TheVariants.{Pick, Sleep, Pull, End}
+use Rattle.eevdf_ops.specs.declared.deeds.Deed.TheVariants.{Pick, Sleep, Doze, Pull, End}
 use Rattle.eevdf_ops.specs.declared.deeds.Answer.TheVariants.{Picked, Pulled, Slept, Ended}
 use Rattle.eevdf_ops.specs.{Machine.Machine, Machine.queue_at, OneQueue.answer_of_pick, Parts.decider, Programs.deeds_by, Transfers.pulled, Whole.whole, Whole.lines_of}
 use Rattle.eevdf_ops.specs.{Setup.is_allowed, Setup.is_task, Places.count, Places.AreCpus, Places.IsPlaced, WholePull.decision, WholePull.load_of, WholePull.offer}
@@ -22,6 +22,11 @@ leaves_none c (Sleep cpu task) a h = slept a
     slept : (a : Answer) → leaves c (Sleep cpu task) a ≡ false
     slept (Slept lag) = h
     slept a = refl
+leaves_none c (Doze cpu task) a h = dozed a
+  where
+    dozed : (a : Answer) → leaves c (Doze cpu task) a ≡ false
+    dozed (Slept lag) = h
+    dozed a = refl
 leaves_none c (End cpu task) a h = ended a
   where
     ended : (a : Answer) → leaves c (End cpu task) a ≡ false

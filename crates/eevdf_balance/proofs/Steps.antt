@@ -1,20 +1,20 @@
 -- What each deed does to the runnable tasks of each CPU: the same stay, or one comes or goes, as its line tells.
 use Rattle.std.proofs.Common.{◌≡◌, ℕ, true, List, set}
-use Rattle.std.specs.Prelude.{Option, Some, None, Result, Ok, Err}
+use Rattle.std.specs.Prelude.{ℤ, Option, Some, None, Result, Ok, Err}
 use Rattle.std.specs.Option.{unwrap_or}
 use Rattle.std.specs.FinMap.{get, remove, insert}
 use Rattle.eevdf_queue.specs.{declared.entry.Entry.Entry, State.State, declared.sleeper.Sleeper.Sleeper, State.Contents, Sums.Tasks}
-use Rattle.eevdf_queue.specs.{Moves.put_asleep, Moves.with_runnable, Moves.sleeper_of, Wake.wake_to, Wake.wake_sleeper, Placing.placed_entry}
+use Rattle.eevdf_queue.specs.{Doze.put_dozing, Moves.put_asleep, Moves.with_runnable, Moves.sleeper_of, Wake.wake_to, Wake.wake_sleeper, Wake.waking_entry, Placing.placed_entry}
 use Rattle.eevdf_queue.specs.Leaving.{leave, without_entry, carried_running}
 use Rattle.eevdf_ops.specs.{declared.deeds.Deed.Deed, declared.deeds.Answer.Answer}
-use Rattle.eevdf_ops.specs.declared.deeds.Answer.TheVariants.{Woken, Awake, Range, NotRunning, NotHere, Pulled, Ended}
-use Rattle.eevdf_ops.specs.declared.deeds.Deed.TheVariants.{Tick, Pick, Yield, Sleep, Wake, Pull, Renice, Begin, End, Set, Rebase}
+use Rattle.eevdf_ops.specs.declared.deeds.Answer.TheVariants.{Woken, Awake, Range, NotRunning, NotHere, Pulled, Ended, Slept}
+use Rattle.eevdf_ops.specs.declared.deeds.Deed.TheVariants.{Tick, Pick, Yield, Sleep, Doze, Wake, Pull, Renice, Begin, End, Set, Rebase}
 use Rattle.eevdf_ops.specs.{Setup.home_of, Machine.Machine, Machine.queue_at, OneQueue.answer_of_wake, WholeEnd.ending, WholeSleep.slept}
 use Rattle.eevdf_ops.specs.OneQueue.{one_tick, one_pick, one_yield, one_renice, one_begin, one_set, one_rebase}
-use Rattle.eevdf_ops.specs.{LocalActs.slept_here, LocalActs.ended_here, Transfers.slept_away, Transfers.ended_away, Transfers.pulled}
+use Rattle.eevdf_ops.specs.{LocalActs.slept_here, LocalActs.dozed_here, LocalActs.ended_here, Transfers.slept_away, Transfers.ended_away, Transfers.pulled}
 use Rattle.eevdf_ops.specs.WholePull.{decision, load_of, offer, with_task}
 use Rattle.eevdf_ops.specs.Whole.{at_cpu, at_two, whole}
-use Rattle.eevdf_ops.proofs.{MapCounts.itself as same_number, MachinePlaces.each-set, WholeActs.sleep_by_home, WholeActs.end_by_home}
+use Rattle.eevdf_ops.proofs.{MapCounts.itself as same_number, MachinePlaces.each-set, WholeActs.sleep_by_home, WholeActs.doze_by_home, WholeActs.end_by_home}
 use Rattle.eevdf_balance.specs.Crowds.{comes, goes}
 use Rattle.eevdf_balance.proofs.Kept.{AreSame, itself, tick-same, pick-same, yield-same, renice-same, set-same, begin-same, rebase-same}
 
@@ -58,12 +58,18 @@ module _ (P : Deed → Answer → ℕ → Tasks → Tasks → Type 0) (kept : (d
   slept-here cpu task m (Some p) =
       one (Sleep cpu task) (slept p) m cpu (put_asleep (leave (queue_at m cpu) p.task) p) (left (Sleep cpu task) (slept p) cpu (queue_at m cpu) p.task (same_number cpu))
 
-  slept-away : (cpu task home : ℕ) (m : Machine) (o : Option Contents) → AreStepped (Sleep cpu task) m (at_two m cpu home (slept_away o (queue_at m cpu) (queue_at m home)))
-  slept-away cpu task home m None = none-moves (Sleep cpu task) NotRunning m cpu home
-  slept-away cpu task home m (Some p) =
-      two (Sleep cpu task) (slept p) m cpu home (leave (queue_at m cpu) p.task) (put_asleep (queue_at m home) p)
-      (left (Sleep cpu task) (slept p) cpu (queue_at m cpu) p.task (same_number cpu))
-      (kept (Sleep cpu task) (slept p) home (queue_at m home).runnable (queue_at m home).runnable (itself (queue_at m home).runnable))
+  dozed-here : (cpu task : ℕ) (m : Machine) (o : Option Contents) → AreStepped (Doze cpu task) m (at_cpu m cpu (dozed_here o (queue_at m cpu)))
+  dozed-here cpu task m None = stays (Doze cpu task) NotRunning m cpu (queue_at m cpu) (itself (queue_at m cpu).runnable)
+  dozed-here cpu task m (Some p) =
+      one (Doze cpu task) (slept p) m cpu (put_dozing (leave (queue_at m cpu) p.task) p) (left (Doze cpu task) (slept p) cpu (queue_at m cpu) p.task (same_number cpu))
+
+  -- a sleep away from the task's home, and a doze there
+  slept-away : (d : Deed) (cpu home : ℕ) (m : Machine) (o : Option Contents) → ((lag : ℤ) → goes cpu d (Slept lag) ≡ true) → AreStepped d m (at_two m cpu home (slept_away o (queue_at m cpu) (queue_at m home)))
+  slept-away d cpu home m None tells = none-moves d NotRunning m cpu home
+  slept-away d cpu home m (Some p) tells =
+      two d (slept p) m cpu home (leave (queue_at m cpu) p.task) (put_asleep (queue_at m home) p)
+      (left d (slept p) cpu (queue_at m cpu) p.task (tells p.lag))
+      (kept d (slept p) home (queue_at m home).runnable (queue_at m home).runnable (itself (queue_at m home).runnable))
 
   ended-here : (cpu task : ℕ) (m : Machine) (o : Option Contents) → AreStepped (End cpu task) m (at_cpu m cpu (ended_here o (queue_at m cpu)))
   ended-here cpu task m None = stays (End cpu task) NotHere m cpu (queue_at m cpu) (itself (queue_at m cpu).runnable)
@@ -82,13 +88,13 @@ module _ (P : Deed → Answer → ℕ → Tasks → Tasks → Type 0) (kept : (d
   woken_to cpu task sender m None = stays (Wake cpu task sender) Range m cpu (queue_at m cpu) (itself (queue_at m cpu).runnable)
   woken_to cpu task sender m (Some e) =
       let q : State = queue_at m cpu in
-      one (Wake cpu task sender) Woken m cpu (record { runnable = insert q.runnable task e; running = q.running; asleep = remove q.asleep task; base = q.base })
+      one (Wake cpu task sender) Woken m cpu (record q { runnable = insert q.runnable task e; asleep = remove q.asleep task; places = remove q.places task })
       (came (Wake cpu task sender) Woken cpu q.runnable task e (same_number cpu))
 
   woken : (cpu task sender : ℕ) (m : Machine) (o : Option Sleeper) → AreStepped (Wake cpu task sender) m
       (at_cpu m cpu (answer_of_wake (wake_sleeper (queue_at m cpu) task o).0, (wake_sleeper (queue_at m cpu) task o).1))
   woken cpu task sender m None = stays (Wake cpu task sender) Awake m cpu (queue_at m cpu) (itself (queue_at m cpu).runnable)
-  woken cpu task sender m (Some s) = woken_to cpu task sender m (placed_entry (queue_at m cpu) s)
+  woken cpu task sender m (Some s) = woken_to cpu task sender m (waking_entry (queue_at m cpu) s (get (queue_at m cpu).places task))
 
   pulled-by : (cpu source : ℕ) (m : Machine) (d : Result Contents Answer) → AreStepped (Pull cpu source) m (at_two m cpu source (pulled d (queue_at m cpu) (queue_at m source)))
   pulled-by cpu source m (Err refusal) = none-moves (Pull cpu source) refusal m cpu source
@@ -103,7 +109,10 @@ module _ (P : Deed → Answer → ℕ → Tasks → Tasks → Type 0) (kept : (d
   stepped homes (Yield cpu) m = stays (Yield cpu) (one_yield (queue_at m cpu)).0 m cpu (one_yield (queue_at m cpu)).1 (yield-same (queue_at m cpu))
   stepped homes (Sleep cpu task) m =
       sleep_by_home (λ r. AreStepped (Sleep cpu task) m r) homes cpu task m (λ e. slept-here cpu task m (carried_running (queue_at m cpu) task))
-      (λ e. slept-away cpu task (home_of homes task) m (carried_running (queue_at m cpu) task))
+      (λ e. slept-away (Sleep cpu task) cpu (home_of homes task) m (carried_running (queue_at m cpu) task) (λ lag. same_number cpu))
+  stepped homes (Doze cpu task) m =
+      doze_by_home (λ r. AreStepped (Doze cpu task) m r) homes cpu task m (λ e. dozed-here cpu task m (carried_running (queue_at m cpu) task))
+      (λ e. slept-away (Doze cpu task) cpu (home_of homes task) m (carried_running (queue_at m cpu) task) (λ lag. same_number cpu))
   stepped homes (Wake cpu task sender) m = woken cpu task sender m (get (queue_at m cpu).asleep task)
   stepped homes (Pull cpu source) m = pulled-by cpu source m (decision (queue_at m cpu) (load_of (queue_at m source)) (offer (queue_at m source)))
   stepped homes (Renice cpu task nice) m =

@@ -2,7 +2,7 @@
 use Rattle.std.specs.Prelude.{◌≡◌, ℕ, ◌+◌, ◌≤◌, ◌==◌, Bool, false, List, [], ◌∷◌}
 use Rattle.std.specs.FinMap as map
 use Rattle.eevdf_ops.specs.{declared.deeds.Deed.Deed, declared.deeds.Answer.Answer, declared.deeds.Line.Line}
-use Rattle.eevdf_ops.specs.declared.deeds.Deed.TheVariants.{Sleep, Wake, Pull, End}
+use Rattle.eevdf_ops.specs.declared.deeds.Deed.TheVariants.{Sleep, Doze, Wake, Pull, End}
 use Rattle.eevdf_ops.specs.declared.deeds.Answer.TheVariants.{Slept, Woken, Pulled, Ended}
 use Rattle.eevdf_ops.specs.{Machine.Machine, Machine.queue_at, Places.count, Whole.lines_of, Whole.machine_after}
 
@@ -24,13 +24,14 @@ comes c (Wake cpu task sender) Woken = cpu == c
 comes c (Pull cpu source) (Pulled task) = cpu == c
 comes c deed answer = false
 
--- a task of a CPU is done there for now: it falls asleep or ends
+-- a task of a CPU is done there for now: it falls asleep, dozes off or ends
 abbrev pub leaves : ℕ → Deed → Answer → Bool
 leaves c (Sleep cpu task) (Slept lag) = cpu == c
+leaves c (Doze cpu task) (Slept lag) = cpu == c
 leaves c (End cpu task) Ended = cpu == c
 leaves c deed answer = false
 
--- a task goes from a CPU: it falls asleep or ends there, or another CPU pulls it
+-- a task goes from a CPU: it is done there for now, or another CPU pulls it
 abbrev pub goes : ℕ → Deed → Answer → Bool
 goes c (Pull cpu source) (Pulled task) = source == c
 goes c deed answer = leaves c deed answer

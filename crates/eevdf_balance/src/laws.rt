@@ -29,7 +29,7 @@ use eevdf_queue::laws::{pick_is_first, pick_of_nobody};
 
 /// After any deeds a CPU has at most the runnable tasks that it had and those that came by the lines of these deeds, and it had at most
 /// those that it has and those that went. A task comes by a wake that is answered *woken* and by a pull of the CPU's own that is answered
-/// *pulled*; it goes by a sleep that is answered *slept*, by an end that is answered *ended*, and by another CPU's pull.
+/// *pulled*; it goes by a sleep or a doze that is answered *slept*, by an end that is answered *ended*, and by another CPU's pull.
 pub fn lines_tell_tasks()
     ensures { LinesTellTasks }
 {}

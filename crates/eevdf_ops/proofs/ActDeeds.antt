@@ -5,7 +5,7 @@ use Rattle.eevdf_ops.specs.{declared.acts.LocalAct.LocalAct, declared.acts.Trans
 use Rattle.eevdf_ops.specs.declared.acts.Act.TheVariants as act
 use Rattle.eevdf_ops.specs.declared.acts.LocalAct.TheVariants as local
 use Rattle.eevdf_ops.specs.declared.acts.Transfer.TheVariants as transfer
-use Rattle.eevdf_ops.specs.declared.deeds.Deed.TheVariants.{Sleep, Pull, End}
+use Rattle.eevdf_ops.specs.declared.deeds.Deed.TheVariants.{Sleep, Doze, Pull, End}
 use Rattle.eevdf_ops.specs.{Acts.act_of, Parts.decider, Parts.touches}
 use Rattle.eevdf_ops.proofs.MapCounts.{equal}
 
@@ -30,6 +30,7 @@ one-touches cpu home c false s a t e is = cc
 -- the one queue that is touched
 pub local-touches : (homes : List ℕ) (d : Deed) (a : LocalAct) (c : ℕ) → act_of homes d ≡ act.Local a → touches homes d c ≡ (c == decider d)
 local-touches homes (Sleep cpu task) a c is = one-touches cpu (home_of homes task) c (home_of homes task == cpu) (local.Sleep task) a (transfer.Sleep task) refl is
+local-touches homes (Doze cpu task) a c is = one-touches cpu (home_of homes task) c (home_of homes task == cpu) (local.Doze task) a (transfer.Sleep task) refl is
 local-touches homes (End cpu task) a c is = one-touches cpu (home_of homes task) c (home_of homes task == cpu) (local.End task) a (transfer.End task) refl is
 local-touches homes (Pull cpu source) a c is = cc
 local-touches homes deed a c is = once-only (c == decider deed)
@@ -44,6 +45,7 @@ one-elsewhere cpu home other c false a s t is =
 -- the two queues that are touched
 pub across-touches : (homes : List ℕ) (d : Deed) (other : ℕ) (t : Transfer) (c : ℕ) → act_of homes d ≡ act.Transfer other t → touches homes d c ≡ ((c == decider d) || (c == other))
 across-touches homes (Sleep cpu task) other t c is = one-elsewhere cpu (home_of homes task) other c (home_of homes task == cpu) (local.Sleep task) (transfer.Sleep task) t is
+across-touches homes (Doze cpu task) other t c is = one-elsewhere cpu (home_of homes task) other c (home_of homes task == cpu) (local.Doze task) (transfer.Sleep task) t is
 across-touches homes (End cpu task) other t c is = one-elsewhere cpu (home_of homes task) other c (home_of homes task == cpu) (local.End task) (transfer.End task) t is
 across-touches homes (Pull cpu source) other t c is =
     let from : source ≡ other = cc in

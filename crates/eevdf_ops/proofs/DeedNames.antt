@@ -6,7 +6,7 @@ use Rattle.eevdf_ops.specs.{Acts.act_of, declared.acts.LocalAct.LocalAct, declar
 use Rattle.eevdf_ops.specs.declared.acts.Act.TheVariants as act
 use Rattle.eevdf_ops.specs.declared.acts.LocalAct.TheVariants as local
 use Rattle.eevdf_ops.specs.declared.acts.Transfer.TheVariants as transfer
-use Rattle.eevdf_ops.specs.declared.deeds.Deed.TheVariants.{Sleep, Pull, End}
+use Rattle.eevdf_ops.specs.declared.deeds.Deed.TheVariants.{Sleep, Doze, Pull, End}
 use Rattle.eevdf_ops.specs.Parts.{decider}
 
 pub unequal : (k c : ℕ) → (k == c) ≡ false → k ≢ c
@@ -44,6 +44,8 @@ home_below cpus homes cpu task ok homed = homed task (ltb-true task (length home
 pub transfer_names : (cpus : ℕ) (homes : List ℕ) (deed : Deed) (other : ℕ) (t : Transfer) → is_allowed cpus homes deed ≡ true → AreCpus cpus homes → act_of homes deed ≡ act.Transfer other t → PullNames cpus (decider deed) other
 transfer_names cpus homes (Sleep cpu task) other t ok homed is =
     other_names cpus cpu (home_of homes task) other (local.Sleep task) (transfer.Sleep task) t (home_of homes task == cpu) refl (decider_below cpus homes (Sleep cpu task) ok) (home_below cpus homes cpu task ok homed) is
+transfer_names cpus homes (Doze cpu task) other t ok homed is =
+    other_names cpus cpu (home_of homes task) other (local.Doze task) (transfer.Sleep task) t (home_of homes task == cpu) refl (decider_below cpus homes (Doze cpu task) ok) (home_below cpus homes cpu task ok homed) is
 transfer_names cpus homes (End cpu task) other t ok homed is =
     other_names cpus cpu (home_of homes task) other (local.End task) (transfer.End task) t (home_of homes task == cpu) refl (decider_below cpus homes (End cpu task) ok) (home_below cpus homes cpu task ok homed) is
 transfer_names cpus homes (Pull cpu source) other t ok homed is =

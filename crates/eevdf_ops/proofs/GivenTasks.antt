@@ -5,15 +5,16 @@ use Rattle.std.proofs.{lemmas.Bool.false≢true}
 use Rattle.eevdf_queue.specs.State.{State, Contents, empty_state}
 use Rattle.eevdf_queue.specs.{Tick.tick, Pick.after_pick, Yield.yield_now, Wake.wake, Renice.renice, Rebase.rebase}
 use Rattle.eevdf_queue.specs.Attributes as attributes
-use Rattle.eevdf_queue.specs.{Leaving.carried_running, Leaving.leave}
+use Rattle.eevdf_queue.specs.{Leaving.carried_running, Leaving.leave, Moves.put_asleep}
 use Rattle.eevdf_ops.specs.{declared.task_spec.TaskSpec.TaskSpec, declared.deeds.Answer.Answer, declared.deeds.Deed.Deed}
-use Rattle.eevdf_ops.specs.{LocalActs.slept_here, Transfers.slept_away, Transfers.pulled, Whole.whole, Whole.machine_after}
-use Rattle.eevdf_ops.specs.declared.deeds.Deed.TheVariants.{Tick, Pick, Yield, Sleep, Wake, Pull, Renice, Begin, End, Set, Rebase}
+use Rattle.eevdf_ops.specs.{LocalActs.dozed_here, LocalActs.slept_here, Transfers.slept_away, Transfers.pulled, Whole.whole, Whole.machine_after}
+use Rattle.eevdf_ops.specs.declared.deeds.Deed.TheVariants.{Tick, Pick, Yield, Sleep, Doze, Wake, Pull, Renice, Begin, End, Set, Rebase}
 use Rattle.eevdf_ops.specs.Setup.{home_of, homes_of, cpus_of}
 use Rattle.eevdf_ops.specs.Machine.{Machine, queue_at, begin, beginner, begin_at_homes, start}
 use Rattle.eevdf_ops.specs.{WholePull.offer, WholePull.load_of, WholePull.decision, WholeEnd.ending}
 use Rattle.eevdf_ops.specs.Given.{renices, is_reniced, sets, is_set, IsAsGiven, TasksStayAsGiven}
-use Rattle.eevdf_ops.proofs.{MapCounts.itself, MachinePlaces.each-set, Pulling.decision-taken, WholeActs.sleep_by_home, WholeActs.end_by_home}
+use Rattle.eevdf_ops.proofs.{MapCounts.itself, MachinePlaces.each-set, Pulling.decision-taken, WholeActs.sleep_by_home, WholeActs.doze_by_home, WholeActs.end_by_home}
+use Rattle.eevdf_ops.proofs.QueuePlaces.{owed}
 use Rattle.eevdf_ops.proofs.QueueValues.{
   Each,
   asleep-each,
@@ -65,6 +66,12 @@ module _ (P : ℕ → ℤ → ℕ → Type 0) where
   here-each q None each given = each
   here-each q (Some p) each given = asleep-each P (leave q p.task) p (leave-each P q p.task each) (given p refl)
 
+  dozed-each : (q : State) (o : Option Contents) → Each P q → ((p : Contents) → o ≡ Some p → P p.task p.nice p.slice) → Each P (dozed_here o q).1
+  dozed-each q None each given = each
+  dozed-each q (Some p) each given =
+      let rests : Each P (put_asleep (leave q p.task) (owed p)) = asleep-each P (leave q p.task) (owed p) (leave-each P q p.task each) (given p refl) in
+      record { runnable = rests.runnable; asleep = rests.asleep }
+
   away-each : (q r : State) (o : Option Contents) → Each P q → Each P r → ((p : Contents) → o ≡ Some p → P p.task p.nice p.slice) → Each P (slept_away o q r).1.0 × Each P (slept_away o q r).1.1
   away-each q r None one two given = (one, two)
   away-each q r (Some p) one two given = (leave-each P q p.task one, asleep-each P r p two (given p refl))
@@ -81,6 +88,11 @@ module _ (P : ℕ → ℤ → ℕ → Type 0) where
       let o : Option Contents = carried_running (queue_at m cpu) task in
       let given : (p : Contents) → o ≡ Some p → P p.task p.nice p.slice = λ p e. running-given P (queue_at m cpu) task p (all cpu) e in
       sleep_by_home (λ (r : Answer × Machine). Everywhere r.1) homes cpu task m (λ e. set-each m cpu _ (here-each (queue_at m cpu) o (all cpu) given) all)
+      (λ e. two-each m cpu (home_of homes task) _ (away-each (queue_at m cpu) (queue_at m (home_of homes task)) o (all cpu) (all (home_of homes task)) given) all)
+  whole-each homes (Doze cpu task) m may set all =
+      let o : Option Contents = carried_running (queue_at m cpu) task in
+      let given : (p : Contents) → o ≡ Some p → P p.task p.nice p.slice = λ p e. running-given P (queue_at m cpu) task p (all cpu) e in
+      doze_by_home (λ (r : Answer × Machine). Everywhere r.1) homes cpu task m (λ e. set-each m cpu _ (dozed-each (queue_at m cpu) o (all cpu) given) all)
       (λ e. two-each m cpu (home_of homes task) _ (away-each (queue_at m cpu) (queue_at m (home_of homes task)) o (all cpu) (all (home_of homes task)) given) all)
   whole-each homes (Wake cpu task sender) m may set all = set-each m cpu (wake (queue_at m cpu) task).1 (wake-each P (queue_at m cpu) task (all cpu)) all
   whole-each homes (Renice cpu task nice) m may set all =

@@ -2,16 +2,17 @@
 use Rattle.std.proofs.Common.{◌≡◌, ◌≢◌, ℕ, ◌<◌, Bool, true, false, cond, ◌||◌, List, [], length, set, refl, sym, ap, subst, ◌∙◌, arith}
 use Rattle.std.specs.Prelude.{◌==◌, Option, None, Result, Ok, Err}
 use Rattle.std.specs.Result.{result_ok}
-use Rattle.std.proofs.{Math.ListN.length-set, lemmas.List.get_or-set_same, lemmas.List.set_comm}
+use Rattle.std.proofs.{Math.ListN.length-set, lemmas.List.get_or-set_same, lemmas.List.set_comm, lemmas.Bool.Decides.nat_tests}
 use Rattle.eevdf_queue.specs.State.{State, Contents, empty_state}
 use Rattle.eevdf_queue.specs.{Leaving.carried_running}
 use Rattle.eevdf_ops.specs.{declared.deeds.Deed.Deed, declared.deeds.Answer.Answer, Setup.home_of, Machine.Machine}
-use Rattle.eevdf_ops.specs.{Acts.act_of, Machine.queue_at, Whole.whole, Whole.at_cpu, Whole.at_two, LocalActs.slept_here, Transfers.slept_away, WholeEnd.ending}
-use Rattle.eevdf_ops.specs.declared.deeds.Deed.TheVariants.{Sleep, Pull, End}
-use Rattle.eevdf_ops.specs.Parts.{decider, done_alone, giver, taker, Moved, given, answer_of_sleep, answer_of_end, answer_of_pull, local_answer, taken, after_leaving, after_falling_asleep, after_joining, only_at, local_after}
+use Rattle.eevdf_ops.specs.{Acts.act_of, Machine.queue_at, Whole.whole, Whole.at_two, Transfers.slept_away, WholeEnd.ending}
+use Rattle.eevdf_ops.specs.declared.deeds.Deed.TheVariants.{Sleep, Doze, Pull, End}
+use Rattle.eevdf_ops.specs.Parts.{decider, done_alone, giver, taker, Moved, given, answer_of_sleep, answer_of_end, answer_of_pull, local_answer, taken, after_leaving, after_falling_asleep, after_joining, after_putting, putting_of_doze, only_at, local_after}
+use Rattle.eevdf_ops.specs.{declared.halves.Putting.Putting, declared.halves.Putting.TheVariants.Asleep, declared.halves.Putting.TheVariants.Dozing}
 use Rattle.eevdf_ops.specs.PartsLaws as laws
 use Rattle.eevdf_ops.specs.WholePull.{offer, load_of, decision, pull_decision}
-use Rattle.eevdf_ops.proofs.{MapCounts.equal, MachinePlaces.other_queue, Pulling.decision-taken, Pulling.refusals, WholeActs.sleep_by_home, WholeActs.end_by_home}
+use Rattle.eevdf_ops.proofs.{MapCounts.equal, MachinePlaces.other_queue, Pulling.decision-taken, Pulling.refusals, WholeActs.sleep_by_home, WholeActs.doze_by_home, WholeActs.end_by_home}
 use Rattle.eevdf_ops.proofs.DeedNames.{PullNames, decider_below, home_below, pull_names, unequal}
 
 changed_by : (f : State → State) (m : Machine) (c k : ℕ) (b : Bool) → (k == c) ≡ b → c < length m → queue_at (set m c (f (queue_at m c))) k ≡ cond b (f (queue_at m k)) (queue_at m k)
@@ -45,17 +46,18 @@ at_once : (f g : State → State) (b : Bool) (q : State) → cond b (g (f q)) q 
 at_once f g true q = refl
 at_once f g false q = refl
 
-slept_queue : ℕ → ℕ → ℕ → Option Contents → State → State
-slept_queue cpu home k o q = only_at home k (after_falling_asleep o) (only_at cpu k (after_leaving o) q)
+rested_queue : Putting → ℕ → ℕ → ℕ → Option Contents → State → State
+rested_queue how cpu home k o q = only_at home k (after_putting how o) (only_at cpu k (after_leaving o) q)
 
-here_after : (m : Machine) (cpu k : ℕ) (o : Option Contents) → cpu < length m → queue_at (at_cpu m cpu (slept_here o (queue_at m cpu))).1 k ≡ slept_queue cpu cpu k o (queue_at m k)
-unfolding slept_queue
-here_after m cpu k o h =
-    changed (λ q. after_falling_asleep o (after_leaving o q)) m cpu k h ∙ at_once (after_leaving o) (after_falling_asleep o) (k == cpu) (queue_at m k)
+here_after : (how : Putting) (m : Machine) (cpu k : ℕ) (o : Option Contents) → cpu < length m
+    → queue_at (set m cpu (after_putting how o (after_leaving o (queue_at m cpu)))) k ≡ rested_queue how cpu cpu k o (queue_at m k)
+unfolding rested_queue
+here_after how m cpu k o h =
+    changed (λ q. after_putting how o (after_leaving o q)) m cpu k h ∙ at_once (after_leaving o) (after_putting how o) (k == cpu) (queue_at m k)
 
 away_after : (m : Machine) (cpu home k : ℕ) (o : Option Contents) → cpu < length m → home < length m → home ≢ cpu
-    → queue_at (at_two m cpu home (slept_away o (queue_at m cpu) (queue_at m home))).1 k ≡ slept_queue cpu home k o (queue_at m k)
-unfolding slept_queue
+    → queue_at (at_two m cpu home (slept_away o (queue_at m cpu) (queue_at m home))).1 k ≡ rested_queue Asleep cpu home k o (queue_at m k)
+unfolding rested_queue
 away_after m cpu home k o h i apart = changed_apart (after_leaving o) (after_falling_asleep o) m cpu home k h i apart
 
 pub untaken : (q : State) (load : ℕ) (offered o : Option Contents) (why : Answer) → decision q load offered ≡ Err why → taken why o ≡ None
@@ -79,24 +81,41 @@ moved_by m deed = given deed (queue_at m (giver deed))
 -- the decider answers
 pub whole-answer : (homes : List ℕ) (deed : Deed) (m : Machine) → (whole homes deed m).0 ≡ local_answer deed (queue_at m (decider deed)) (moved_by m deed)
 whole-answer homes (Sleep cpu task) m = sleep_by_home (λ (r : Answer × Machine). r.0 ≡ answer_of_sleep (carried_running (queue_at m cpu) task)) homes cpu task m (λ e. refl) (λ e. refl)
+whole-answer homes (Doze cpu task) m = doze_by_home (λ (r : Answer × Machine). r.0 ≡ answer_of_sleep (carried_running (queue_at m cpu) task)) homes cpu task m (λ e. refl) (λ e. refl)
 whole-answer homes (End cpu task) m = end_by_home (λ (r : Answer × Machine). r.0 ≡ answer_of_end (ending (queue_at m cpu) task)) homes cpu task m (λ e. refl) (λ e. refl)
 whole-answer homes deed m = refl
+
+-- a doze is one at home alone
+pub dozing-here : (cpu home : ℕ) → home ≡ cpu → putting_of_doze cpu home ≡ Dozing
+dozing-here cpu home e = let same : (home == cpu) ≡ true = grind (arith, nat_tests) in ap (λ (b : Bool). cond {A = Putting} b Dozing Asleep) same
+
+pub sleeping-away : (cpu home : ℕ) → home ≢ cpu → putting_of_doze cpu home ≡ Asleep
+sleeping-away cpu home apart = let other : (home == cpu) ≡ false = grind (arith, nat_tests) in ap (λ (b : Bool). cond {A = Putting} b Dozing Asleep) other
 
 -- and each queue changes by itself
 pub whole-after : (homes : List ℕ) (deed : Deed) (m : Machine) (k : ℕ) → laws.Fits homes deed m
     → queue_at (whole homes deed m).1 k ≡ local_after homes deed k (queue_at m k) (whole homes deed m).0 (moved_by m deed)
-unfolding slept_queue
+unfolding rested_queue
 whole-after homes (Sleep cpu task) m k fits =
     let o : Option Contents = carried_running (queue_at m cpu) task in
     let h : cpu < length m = decider_below _ homes (Sleep cpu task) fits.allowed in
-    sleep_by_home (λ (r : Answer × Machine). queue_at r.1 k ≡ slept_queue cpu (home_of homes task) k o (queue_at m k)) homes cpu task m
-    (λ e. here_after m cpu k o h ∙ ap (λ (n : ℕ). slept_queue cpu n k o (queue_at m k)) (sym e))
+    sleep_by_home (λ (r : Answer × Machine). queue_at r.1 k ≡ rested_queue Asleep cpu (home_of homes task) k o (queue_at m k)) homes cpu task m
+    (λ e. here_after Asleep m cpu k o h ∙ ap (λ (n : ℕ). rested_queue Asleep cpu n k o (queue_at m k)) (sym e))
     (λ apart. away_after m cpu (home_of homes task) k o h (home_below _ homes cpu task fits.allowed fits.cpus) apart)
+whole-after homes (Doze cpu task) m k fits =
+    let home : ℕ = home_of homes task in
+    let o : Option Contents = carried_running (queue_at m cpu) task in
+    let h : cpu < length m = decider_below _ homes (Doze cpu task) fits.allowed in
+    doze_by_home (λ (r : Answer × Machine). queue_at r.1 k ≡ rested_queue (putting_of_doze cpu home) cpu home k o (queue_at m k)) homes cpu task m
+    (λ e. here_after Dozing m cpu k o h ∙ ap (λ (n : ℕ). rested_queue Dozing cpu n k o (queue_at m k)) (sym e)
+    ∙ ap (λ (how : Putting). rested_queue how cpu home k o (queue_at m k)) (sym (dozing-here cpu home e)))
+    (λ apart. away_after m cpu home k o h (home_below _ homes cpu task fits.allowed fits.cpus) apart
+    ∙ ap (λ (how : Putting). rested_queue how cpu home k o (queue_at m k)) (sym (sleeping-away cpu home apart)))
 whole-after homes (End cpu task) m k fits =
     let o : Option Contents = ending (queue_at m cpu) task in
     let h : cpu < length m = decider_below _ homes (End cpu task) fits.allowed in
-    end_by_home (λ (r : Answer × Machine). queue_at r.1 k ≡ slept_queue cpu (home_of homes task) k o (queue_at m k)) homes cpu task m
-    (λ e. here_after m cpu k o h ∙ ap (λ (n : ℕ). slept_queue cpu n k o (queue_at m k)) (sym e))
+    end_by_home (λ (r : Answer × Machine). queue_at r.1 k ≡ rested_queue Asleep cpu (home_of homes task) k o (queue_at m k)) homes cpu task m
+    (λ e. here_after Asleep m cpu k o h ∙ ap (λ (n : ℕ). rested_queue Asleep cpu n k o (queue_at m k)) (sym e))
     (λ apart. away_after m cpu (home_of homes task) k o h (home_below _ homes cpu task fits.allowed fits.cpus) apart)
 whole-after homes (Pull cpu source) m k fits =
     let q : State = queue_at m cpu in
@@ -112,6 +131,9 @@ or_false false b e = (refl, e)
 stays : (homes : List ℕ) (deed : Deed) (m : Machine) (k : ℕ) → k ≢ decider deed → k ≢ giver deed → k ≢ taker homes deed → queue_at (whole homes deed m).1 k ≡ queue_at m k
 stays homes (Sleep cpu task) m k d g t =
     sleep_by_home (λ (r : Answer × Machine). queue_at r.1 k ≡ queue_at m k) homes cpu task m (λ e. other_queue m cpu k _ d)
+    (λ e. other_queue (set m cpu _) (home_of homes task) k _ t ∙ other_queue m cpu k _ d)
+stays homes (Doze cpu task) m k d g t =
+    doze_by_home (λ (r : Answer × Machine). queue_at r.1 k ≡ queue_at m k) homes cpu task m (λ e. other_queue m cpu k _ d)
     (λ e. other_queue (set m cpu _) (home_of homes task) k _ t ∙ other_queue m cpu k _ d)
 stays homes (End cpu task) m k d g t =
     end_by_home (λ (r : Answer × Machine). queue_at r.1 k ≡ queue_at m k) homes cpu task m (λ e. other_queue m cpu k _ d)

@@ -2,7 +2,7 @@
 use Rattle.std.proofs.Common.{◌≡◌, ℕ, ◌+◌, ◌≤◌, Bool, true, false, cond, refl, sym, ap, subst, ◌∙◌, arith}
 use Rattle.std.specs.Prelude.{ℤ, is_some, Option, Some, None}
 use Rattle.std.specs.{Ordering.nat_cmp, Cmp.nat_cmp_total, Cmp.unsigned_tied}
-use Rattle.std.specs.FinMap.{FinMap, get, contains_key, insert, get-insert}
+use Rattle.std.specs.FinMap.{FinMap, get, contains_key, insert, remove, get-insert}
 use Rattle.std.proofs.lemmas.Bool.{false≢true}
 use Rattle.eevdf_queue.specs.{declared.entry.Entry.Entry, declared.sleeper.Sleeper.Sleeper, State.State}
 use Rattle.eevdf_queue.specs.Moves.{fresh_entry, is_entry_in_range, with_runnable}
@@ -87,7 +87,7 @@ begin_sleeper_by : (C : Answer × State → Type 0) (q : State) (t : ℕ) (nice 
     → C (answer_of_begin (is_some o), begin_sleeper q t nice slice o)
 begin_sleeper_by C q t nice slice None refused done = refused
 begin_sleeper_by C q t nice slice (Some s) refused done =
-    let r : State = record q { asleep = insert q.asleep t (fresh_sleeper nice slice) } in
+    let r : State = record q { asleep = insert q.asleep t (fresh_sleeper nice slice); places = remove q.places t } in
     done r (asleep-has r t (fresh_sleeper nice slice) (inserted q.asleep t (fresh_sleeper nice slice)))
 
 pub begin_by : (C : Answer × State → Type 0) (q : State) (t : ℕ) (nice : ℤ) (slice : ℕ) → C (Awake, q) → ((r : State) → (places_in r t ≤ 1 → Has r t (nice, slice)) → C (Begun, r)) → C (one_begin q t nice slice)

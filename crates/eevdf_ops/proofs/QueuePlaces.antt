@@ -1,6 +1,7 @@
 -- How a step on one queue changes where tasks stand.
 use Rattle.std.proofs.Common.{◌≡◌, ℕ, ◌+◌, ◌≤◌, Bool, true, false, cond, refl, sym, ap, subst, ◌∙◌, arith}
 use Rattle.std.specs.Prelude.{◌==◌, ℤ, pos, is_some, IfSome, Option, Some, None}
+use Rattle.std.specs.{Int.int_max}
 use Rattle.std.specs.FinMap.{get, contains_key, insert, remove}
 use Rattle.std.proofs.lemmas.Bool.{false≢true}
 use Rattle.eevdf_weight.specs.Limits.{is_in_range}
@@ -9,10 +10,11 @@ use Rattle.eevdf_queue.specs.declared.answers.TickAnswer.TheVariants as tick_ans
 use Rattle.eevdf_queue.specs.declared.answers.YieldAnswer.TheVariants as yield_answer
 use Rattle.eevdf_queue.specs.{declared.sleeper.Sleeper.Sleeper, State.State, State.Contents}
 use Rattle.eevdf_queue.specs.Moves.{is_entry_in_range, put_asleep, sleeper_of, with_runnable}
+use Rattle.eevdf_queue.specs.{Doze.put_dozing}
 use Rattle.eevdf_queue.specs.Tick.{tick, tick_running, tick_entry, tick_to, charged, is_used_up}
 use Rattle.eevdf_queue.specs.Pick.{after_pick, picked_by, pick_of}
 use Rattle.eevdf_queue.specs.Yield.{yield_now, yield_running, yield_entry, yield_to, yielded}
-use Rattle.eevdf_queue.specs.Wake.{wake, wake_sleeper, wake_to}
+use Rattle.eevdf_queue.specs.Wake.{wake, wake_sleeper, wake_to, waking_entry}
 use Rattle.eevdf_queue.specs.Renice.{reniced, renice, renice_entry, renice_to}
 use Rattle.eevdf_queue.specs.SliceChange.{set_slice, set_entry_slice, set_sleeper_slice, sleeper_with_slice}
 use Rattle.eevdf_queue.specs.Attributes.{set, set_reniced, set_sleeper, sleeper_with, begin, begin_sleeper, fresh_sleeper}
@@ -104,7 +106,7 @@ wake_sleeper-same : (q : State) (t : ℕ) (o : Option Sleeper) → places_in q t
 wake_sleeper-same q t None h e = itself q
 wake_sleeper-same q t (Some s) h e =
     let present : contains_key q.asleep t ≡ true = ap is_some e in
-    wake_to-same q t (placed_entry q s) (alone (contains_key q.runnable t) (contains_key q.asleep t) h present) present
+    wake_to-same q t (waking_entry q s (get q.places t)) (alone (contains_key q.runnable t) (contains_key q.asleep t) h present) present
 
 -- a wake moves a task that stands in one place from one to the other
 pub wake-same : (q : State) (t : ℕ) → places_in q t ≤ 1 → IsSame q (wake q t).1
@@ -163,7 +165,9 @@ set-same q t nice slice = set_reniced-same q t nice slice (renice q t nice).0 (r
 
 begin_sleeper-same : (q : State) (t : ℕ) (nice : ℤ) (slice : ℕ) (o : Option Sleeper) → get q.asleep t ≡ o → IsSame q (begin_sleeper q t nice slice o)
 begin_sleeper-same q t nice slice None e = itself q
-begin_sleeper-same q t nice slice (Some s) e = kept-same q t (fresh_sleeper nice slice) (ap is_some e)
+begin_sleeper-same q t nice slice (Some s) e =
+    let kept : IsSame q (record q { asleep = insert q.asleep t (fresh_sleeper nice slice) }) = kept-same q t (fresh_sleeper nice slice) (ap is_some e) in
+    record { places = kept.places; asleep = kept.asleep }
 
 -- a sleeping task that begins anew
 pub begin-same : (q : State) (t : ℕ) (nice : ℤ) (slice : ℕ) → IsSame q (begin q t nice slice)
@@ -210,6 +214,14 @@ pub asleep-with : (q : State) (p : Contents) → places_in q p.task ≡ 0 → Is
 asleep-with q p h = record {
   places = λ u. omega (arith, count-insert q.asleep p.task u (sleeper_of p) (nowhere_asleep (contains_key q.runnable p.task) (contains_key q.asleep p.task) h));
 }
+
+-- what a doze keeps of a task, as what a sleep would of one without a debt
+abbrev pub owed : Contents → Contents
+owed p = record p { lag = int_max (pos 0) p.lag }
+
+-- or dozes off there
+pub dozing-with : (q : State) (p : Contents) → places_in q p.task ≡ 0 → IsWith q p.task (put_dozing q p)
+dozing-with q p h = record { places = (asleep-with q (owed p) h).places }
 
 -- or becomes runnable there
 pub runnable-with : (q q' : State) (t : ℕ) (o : Option Entry) → places_in q t ≡ 0 → with_runnable q t o ≡ Some q' → IsWith q t q'

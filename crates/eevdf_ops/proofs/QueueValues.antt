@@ -10,11 +10,11 @@ use Rattle.eevdf_queue.specs.declared.answers.TickAnswer.TheVariants as tick_ans
 use Rattle.eevdf_queue.specs.declared.answers.YieldAnswer.TheVariants as yield_answer
 use Rattle.eevdf_queue.specs.State.{State, Contents, empty_state}
 use Rattle.eevdf_queue.specs.declared.sleeper.Sleeper.{Sleeper}
-use Rattle.eevdf_queue.specs.Moves.{fresh_entry, is_entry_in_range, put_asleep, sleeper_of, with_runnable}
+use Rattle.eevdf_queue.specs.Moves.{entry_in_range, fresh_entry, is_entry_in_range, put_asleep, sleeper_of, with_runnable}
 use Rattle.eevdf_queue.specs.Tick.{aged, tick, tick_running, tick_entry, tick_to, charged, is_used_up}
 use Rattle.eevdf_queue.specs.Pick.{after_pick, picked_by, pick_of}
 use Rattle.eevdf_queue.specs.Yield.{yield_now, yield_running, yield_entry, yield_to, yielded}
-use Rattle.eevdf_queue.specs.Wake.{wake, wake_sleeper, wake_to}
+use Rattle.eevdf_queue.specs.Wake.{wake, wake_sleeper, wake_to, waking_entry, waking_runtime}
 use Rattle.eevdf_queue.specs.Renice.{reniced, renice, renice_entry, renice_to}
 use Rattle.eevdf_queue.specs.SliceChange.{set_entry_slice, set_sleeper_slice, sleeper_with_slice}
 use Rattle.eevdf_queue.specs.Attributes.{set, set_reniced, set_sleeper, sleeper_with, begin, begin_sleeper, fresh_sleeper, without_lag}
@@ -106,9 +106,9 @@ module _ (P : ℕ → ℤ → ℕ → Type 0) where
   yield-each q each = yield_running-each q q.running each
 
   -- a task that joins keeps both
-  placed-given : (q : State) (t : ℕ) (s : Sleeper) (e : Entry) → P t s.nice s.slice → placed_entry q s ≡ Some e → P t e.nice e.slice
-  placed-given q t s e p h =
-      let fresh : Entry = fresh_entry (placement q s) s.nice s.slice in
+  placed-given : (t : ℕ) (v : ℤ) (s : Sleeper) (e : Entry) → P t s.nice s.slice → entry_in_range (fresh_entry v s.nice s.slice) ≡ Some e → P t e.nice e.slice
+  placed-given t v s e p h =
+      let fresh : Entry = fresh_entry v s.nice s.slice in
       subst (λ (f : Entry). P t f.nice f.slice) (in_range_only fresh e (is_entry_in_range fresh) h) p
 
   wake_to-each : (q : State) (t : ℕ) (o : Option Entry) → Each P q → ((e : Entry) → o ≡ Some e → P t e.nice e.slice) → Each P (wake_to q t (with_runnable q t o)).1
@@ -120,7 +120,8 @@ module _ (P : ℕ → ℤ → ℕ → Type 0) where
 
   wake_sleeper-each : (q : State) (t : ℕ) (o : Option Sleeper) → get q.asleep t ≡ o → Each P q → Each P (wake_sleeper q t o).1
   wake_sleeper-each q t None is each = each
-  wake_sleeper-each q t (Some s) is each = wake_to-each q t (placed_entry q s) each (λ e h. placed-given q t s e (each.asleep t s is) h)
+  wake_sleeper-each q t (Some s) is each =
+      wake_to-each q t (waking_entry q s (get q.places t)) each (λ e h. placed-given t (waking_runtime q s (get q.places t)) s e (each.asleep t s is) h)
 
   pub wake-each : (q : State) (t : ℕ) → Each P q → Each P (wake q t).1
   wake-each q t each = wake_sleeper-each q t (get q.asleep t) refl each
@@ -141,7 +142,7 @@ module _ (P : ℕ → ℤ → ℕ → Type 0) where
       let is : record q { runnable = insert q.runnable t e } ≡ r = cc in subst (λ (z : State). Each P z) is (runnable-each q t e each (p e refl))
 
   put-each : (q r : State) (t : ℕ) (s : Sleeper) → Each P q → P t s.nice s.slice → put q t s ≡ Some r → Each P r
-  put-each q r t s each p h = with-each q r t (placed_entry q s) each (λ e f. placed-given q t s e p f) h
+  put-each q r t s each p h = with-each q r t (placed_entry q s) each (λ e f. placed-given t (placement q s) s e p f) h
 
   renice_to-each : (q : State) (o : Option State) → Each P q → ((r : State) → o ≡ Some r → Each P r) → Each P (renice_to q o).1
   renice_to-each q None each after = each
@@ -189,7 +190,10 @@ module _ (P : ℕ → ℤ → ℕ → Type 0) where
 
     begin_sleeper-each : (q : State) (nice : ℤ) (slice : ℕ) (o : Option Sleeper) → get q.asleep t ≡ o → Each P q → Each P (begin_sleeper q t nice slice o)
     begin_sleeper-each q nice slice None is each = each
-    begin_sleeper-each q nice slice (Some s) is each = kept-each q t (fresh_sleeper nice slice) each (may s.nice nice s.slice slice (each.asleep t s is))
+    begin_sleeper-each q nice slice (Some s) is each =
+        let kept : Each P (record q { asleep = insert q.asleep t (fresh_sleeper nice slice) }) =
+        kept-each q t (fresh_sleeper nice slice) each (may s.nice nice s.slice slice (each.asleep t s is)) in
+        record { runnable = kept.runnable; asleep = kept.asleep }
 
     pub begin-each : (q : State) (nice : ℤ) (slice : ℕ) → Each P q → Each P (begin q t nice slice)
     begin-each q nice slice each = begin_sleeper-each q nice slice (get q.asleep t) refl each

@@ -6,7 +6,7 @@ use Rattle.eevdf_queue.specs.State.{State, empty_state}
 use Rattle.eevdf_ops.specs.{declared.acts.Act.Act, declared.deeds.Deed.Deed, declared.deeds.Answer.Answer, Setup.home_of, Machine.Machine}
 use Rattle.eevdf_ops.specs.{Machine.queue_at, Acts.act_of, Parts.decider, Whole.whole, Whole.at_two, Whole.done_at}
 use Rattle.eevdf_ops.specs.{declared.acts.LocalAct.LocalAct, declared.acts.Transfer.Transfer}
-use Rattle.eevdf_ops.specs.declared.deeds.Deed.TheVariants.{Sleep, End}
+use Rattle.eevdf_ops.specs.declared.deeds.Deed.TheVariants.{Sleep, Doze, End}
 use Rattle.eevdf_ops.specs.declared.acts.Act.TheVariants as act
 use Rattle.eevdf_ops.specs.declared.acts.LocalAct.TheVariants as local
 use Rattle.eevdf_ops.specs.declared.acts.Transfer.TheVariants as transfer
@@ -26,7 +26,12 @@ pub sleep_by_home : (P : Answer × Machine → Type 0) (homes : List ℕ) (cpu t
     → (home_of homes task ≢ cpu → P (done_at cpu (act.Transfer (home_of homes task) (transfer.Sleep task)) m)) → P (whole homes (Sleep cpu task) m)
 sleep_by_home P homes cpu task m here away = by_home P m cpu (home_of homes task) (local.Sleep task) (transfer.Sleep task) (home_of homes task == cpu) refl here away
 
--- and so is an end
+-- and so is a doze, which is a sleep there
+pub doze_by_home : (P : Answer × Machine → Type 0) (homes : List ℕ) (cpu task : ℕ) (m : Machine) → (home_of homes task ≡ cpu → P (done_at cpu (act.Local (local.Doze task)) m))
+    → (home_of homes task ≢ cpu → P (done_at cpu (act.Transfer (home_of homes task) (transfer.Sleep task)) m)) → P (whole homes (Doze cpu task) m)
+doze_by_home P homes cpu task m here away = by_home P m cpu (home_of homes task) (local.Doze task) (transfer.Sleep task) (home_of homes task == cpu) refl here away
+
+-- and an end
 pub end_by_home : (P : Answer × Machine → Type 0) (homes : List ℕ) (cpu task : ℕ) (m : Machine) → (home_of homes task ≡ cpu → P (done_at cpu (act.Local (local.End task)) m))
     → (home_of homes task ≢ cpu → P (done_at cpu (act.Transfer (home_of homes task) (transfer.End task)) m)) → P (whole homes (End cpu task) m)
 end_by_home P homes cpu task m here away = by_home P m cpu (home_of homes task) (local.End task) (transfer.End task) (home_of homes task == cpu) refl here away

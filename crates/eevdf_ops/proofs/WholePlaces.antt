@@ -4,20 +4,21 @@ use Rattle.std.specs.Prelude.{◌==◌, Option, Some, None, Result, Ok, Err}
 use Rattle.std.specs.{Option.unwrap_or, FinMap.contains_key}
 use Rattle.std.proofs.Math.ListN.{length-set}
 use Rattle.eevdf_queue.specs.{declared.entry.Entry.Entry, State.State, State.Contents, Leaving.carried_running, Leaving.leave, Placing.placed_entry}
+use Rattle.eevdf_queue.specs.{Doze.put_dozing}
 use Rattle.eevdf_queue.specs.Moves.{put_asleep, sleeper_of, with_runnable}
 use Rattle.eevdf_ops.specs.{declared.acts.Act.Act, declared.deeds.Answer.Answer, declared.deeds.Deed.Deed, Machine.Machine, Machine.queue_at}
-use Rattle.eevdf_ops.specs.{Acts.act_of, LocalActs.slept_here, Transfers.slept_away, Transfers.pulled, Origins.decider, Origins.origin_of}
+use Rattle.eevdf_ops.specs.{Acts.act_of, LocalActs.dozed_here, LocalActs.slept_here, Transfers.slept_away, Transfers.pulled, Origins.decider, Origins.origin_of}
 use Rattle.eevdf_ops.specs.Whole.{at_two, done_at, whole, machine_after}
-use Rattle.eevdf_ops.specs.declared.deeds.Deed.TheVariants.{Sleep, Wake, Pull, End}
+use Rattle.eevdf_ops.specs.declared.deeds.Deed.TheVariants.{Sleep, Doze, Wake, Pull, End}
 use Rattle.eevdf_ops.specs.declared.acts.Act.TheVariants as act
 use Rattle.eevdf_ops.specs.Setup.{home_of, is_task, is_allowed}
 use Rattle.eevdf_ops.specs.Places.{places_in, IsPlaced, AreCpus}
 use Rattle.eevdf_ops.specs.{WholePull.offer, WholePull.load_of, WholePull.decision, WholePull.with_task, WholeEnd.ending}
 use Rattle.eevdf_ops.proofs.Carried.{Carries, running-carries, ending-carries, offer-carries, leaves-without, carried-stands, left-nowhere}
 use Rattle.eevdf_ops.proofs.Pulling.{IsTaken, decision-taken, with_task-put}
-use Rattle.eevdf_ops.proofs.{DeedNames.PullNames, DeedNames.decider_below, DeedNames.home_below, DeedNames.pull_names, WholeActs.sleep_by_home, WholeActs.end_by_home}
+use Rattle.eevdf_ops.proofs.{DeedNames.PullNames, DeedNames.decider_below, DeedNames.home_below, DeedNames.pull_names, WholeActs.sleep_by_home, WholeActs.doze_by_home, WholeActs.end_by_home}
 use Rattle.eevdf_ops.proofs.MapCounts.{equal, contains-insert}
-use Rattle.eevdf_ops.proofs.QueuePlaces.{IsWith, IsWithout, own-same, wake-same, asleep-with, runnable-with}
+use Rattle.eevdf_ops.proofs.QueuePlaces.{IsWith, IsWithout, own-same, wake-same, asleep-with, dozing-with, owed, runnable-with}
 use Rattle.eevdf_ops.proofs.Origins.{operation_in}
 use Rattle.eevdf_ops.proofs.MachinePlaces.{at-most, none-twice, places-at, SleepsAtHome, one-placed, same-placed, two-placed}
 
@@ -33,17 +34,33 @@ asleep_home homes cpu q p home asleep u e =
     fallen homes cpu u (u == p.task) (contains_key q.asleep u) (λ same. ap (home_of homes) (equal u p.task same) ∙ home) (asleep u)
     (sym (contains-insert q.asleep p.task u (sleeper_of p)) ∙ e)
 
+-- a task leaves a queue and is put into it again, to sleep or to doze
+back-placed : (homes : List ℕ) (m : Machine) (cpu task : ℕ) (p : Contents) (r : State) → cpu < length m → Carries (queue_at m cpu) task p
+    → (places_in (leave (queue_at m cpu) p.task) p.task ≡ 0 → IsWith (leave (queue_at m cpu) p.task) p.task r)
+    → (SleepsAtHome homes cpu (leave (queue_at m cpu) p.task) → SleepsAtHome homes cpu r) → IsPlaced homes m → IsPlaced homes (set m cpu r)
+back-placed homes m cpu task p r h c joins sleeps placed =
+    let q : State = queue_at m cpu in
+    let less : IsWithout q p.task (leave q p.task) = leaves-without q task p c in
+    let more : IsWith (leave q p.task) p.task r = joins (left-nowhere q task p c (few_places homes m cpu p.task h placed)) in
+    one-placed homes m cpu r h (λ u. omega (arith, less.places u, more.places u)) (sleeps (λ u a. placed.at_home cpu u (less.asleep u a))) placed
+
 -- a task falls asleep in the queue that it leaves
 here-placed : (homes : List ℕ) (m : Machine) (cpu task : ℕ) (o : Option Contents) → cpu < length m → home_of homes task ≡ cpu → ((p : Contents) → o ≡ Some p → Carries (queue_at m cpu) task p) → IsPlaced homes m
     → IsPlaced homes (set m cpu (slept_here o (queue_at m cpu)).1)
 here-placed homes m cpu task None h home carries placed = one-placed homes m cpu (queue_at m cpu) h (λ u. refl) (placed.at_home cpu) placed
 here-placed homes m cpu task (Some p) h home carries placed =
-    let q : State = queue_at m cpu in
-    let c : Carries q task p = carries p refl in
-    let less : IsWithout q p.task (leave q p.task) = leaves-without q task p c in
-    let more : IsWith (leave q p.task) p.task (put_asleep (leave q p.task) p) = asleep-with (leave q p.task) p (left-nowhere q task p c (few_places homes m cpu p.task h placed)) in
-    one-placed homes m cpu (put_asleep (leave q p.task) p) h (λ u. omega (arith, less.places u, more.places u))
-    (asleep_home homes cpu (leave q p.task) p (ap (home_of homes) c.of_task ∙ home) (λ u a. placed.at_home cpu u (less.asleep u a))) placed
+    let left : State = leave (queue_at m cpu) p.task in
+    let c : Carries (queue_at m cpu) task p = carries p refl in
+    back-placed homes m cpu task p (put_asleep left p) h c (asleep-with left p) (asleep_home homes cpu left p (ap (home_of homes) c.of_task ∙ home)) placed
+
+-- or dozes off there
+dozed-placed : (homes : List ℕ) (m : Machine) (cpu task : ℕ) (o : Option Contents) → cpu < length m → home_of homes task ≡ cpu → ((p : Contents) → o ≡ Some p → Carries (queue_at m cpu) task p) → IsPlaced homes m
+    → IsPlaced homes (set m cpu (dozed_here o (queue_at m cpu)).1)
+dozed-placed homes m cpu task None h home carries placed = one-placed homes m cpu (queue_at m cpu) h (λ u. refl) (placed.at_home cpu) placed
+dozed-placed homes m cpu task (Some p) h home carries placed =
+    let left : State = leave (queue_at m cpu) p.task in
+    let c : Carries (queue_at m cpu) task p = carries p refl in
+    back-placed homes m cpu task p (put_dozing left p) h c (dozing-with left p) (asleep_home homes cpu left (owed p) (ap (home_of homes) c.of_task ∙ home)) placed
 
 -- or in another one
 away-placed : (homes : List ℕ) (m : Machine) (cpu task home : ℕ) (o : Option Contents) → PullNames (length m) cpu home → home_of homes task ≡ home → ((p : Contents) → o ≡ Some p → Carries (queue_at m cpu) task p) → IsPlaced homes m
@@ -86,6 +103,12 @@ whole-placed homes (Sleep cpu task) m ok cpus placed =
     let h : cpu < length m = decider_below _ homes (Sleep cpu task) ok in
     let carries : (p : Contents) → o ≡ Some p → Carries (queue_at m cpu) task p = λ p e. running-carries (queue_at m cpu) task p e in
     sleep_by_home (λ (r : Answer × Machine). IsPlaced homes r.1) homes cpu task m (λ home. here-placed homes m cpu task o h home carries placed)
+    (λ away. away-placed homes m cpu task (home_of homes task) o (record { puller = h; from = home_below _ homes cpu task ok cpus; apart = λ same. away (sym same) }) refl carries placed)
+whole-placed homes (Doze cpu task) m ok cpus placed =
+    let o : Option Contents = carried_running (queue_at m cpu) task in
+    let h : cpu < length m = decider_below _ homes (Doze cpu task) ok in
+    let carries : (p : Contents) → o ≡ Some p → Carries (queue_at m cpu) task p = λ p e. running-carries (queue_at m cpu) task p e in
+    doze_by_home (λ (r : Answer × Machine). IsPlaced homes r.1) homes cpu task m (λ home. dozed-placed homes m cpu task o h home carries placed)
     (λ away. away-placed homes m cpu task (home_of homes task) o (record { puller = h; from = home_below _ homes cpu task ok cpus; apart = λ same. away (sym same) }) refl carries placed)
 whole-placed homes (Wake cpu task sender) m ok cpus placed =
     let h : cpu < length m = decider_below _ homes (Wake cpu task sender) ok in

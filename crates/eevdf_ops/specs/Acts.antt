@@ -12,6 +12,10 @@ use Rattle.eevdf_ops.specs.declared.acts.Act.TheVariants as act
 abbrev pub sleep_from : ℕ → ℕ → ℕ → Act
 sleep_from cpu task home = if home == cpu then act.Local (local.Sleep task) else act.Transfer home (transfer.Sleep task)
 
+-- a doze on a CPU of a task with this home: away from there it is a sleep
+abbrev pub doze_from : ℕ → ℕ → ℕ → Act
+doze_from cpu task home = if home == cpu then act.Local (local.Doze task) else act.Transfer home (transfer.Sleep task)
+
 -- an end on a CPU of a task with this home
 abbrev pub end_from : ℕ → ℕ → ℕ → Act
 end_from cpu task home = if home == cpu then act.Local (local.End task) else act.Transfer home (transfer.End task)
@@ -26,6 +30,7 @@ local_of (op.Begin task nice slice) = Some (local.Begin task nice slice)
 local_of (op.Set task nice slice) = Some (local.Set task nice slice)
 local_of op.Rebase = Some local.Rebase
 local_of (op.Sleep task) = None
+local_of (op.Doze task) = None
 local_of (op.End task) = None
 local_of (op.Post task) = None
 local_of op.Drain = None
@@ -34,6 +39,7 @@ local_of (op.Pull source) = None
 -- what comes of an operation or a request on a CPU, where tasks have these homes; of a post and a drain there is no deed
 abbrev pub act_from : List ℕ → ℕ → Origin → Act
 act_from homes cpu (Operation (op.Sleep task)) = sleep_from cpu task (home_of homes task)
+act_from homes cpu (Operation (op.Doze task)) = doze_from cpu task (home_of homes task)
 act_from homes cpu (Operation (op.End task)) = end_from cpu task (home_of homes task)
 act_from homes cpu (Operation (op.Pull source)) = act.Transfer source transfer.Pull
 act_from homes cpu (Operation o) = act.Local (unwrap_or (local_of o) local.Pick)

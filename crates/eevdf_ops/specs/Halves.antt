@@ -1,14 +1,14 @@
 -- The halves of a move: what is taken out of a queue, and what is put into one.
-use Rattle.std.specs.Prelude.{◌≡◌, true, false, Option, Some, None, Result, Ok, Err}
+use Rattle.std.specs.Prelude.{◌≡◌, ℕ, ◌==◌, true, false, if◌then◌else◌, Option, Some, None, Result, Ok, Err}
 use Rattle.std.specs.FinMap as map
-use Rattle.eevdf_queue.specs.{State.State, State.Contents, Candidate.is_running, Leaving.carried, Leaving.carried_running, Leaving.leave, Moves.put_asleep, Moves.sleeper_of, Placing.can_place}
+use Rattle.eevdf_queue.specs.{State.State, State.Contents, Candidate.is_running, Leaving.carried, Leaving.carried_running, Leaving.leave, Doze.put_dozing, Moves.put_asleep, Moves.sleeper_of, Placing.can_place}
 use Rattle.eevdf_ops.specs.{declared.deeds.Answer.Answer, declared.halves.Taking.Taking, declared.halves.Putting.Putting}
 use Rattle.eevdf_ops.specs.declared.deeds.Answer.TheVariants.{Ended, NotHere, NotRunning, Pulled}
 use Rattle.eevdf_ops.specs.declared.halves.Taking.TheVariants.{Sleep, End, Pull}
-use Rattle.eevdf_ops.specs.declared.halves.Putting.TheVariants.{Asleep, Runnable}
+use Rattle.eevdf_ops.specs.declared.halves.Putting.TheVariants.{Asleep, Dozing, Runnable}
 use Rattle.eevdf_ops.specs.{WholeEnd.ending, WholePull.with_task, WholeSleep.slept}
 
--- a queue after a task has left it, has fallen asleep in it, has joined it
+-- a queue after a task has left it, has fallen asleep in it, has dozed off in it, has joined it
 abbrev pub after_leaving : Option Contents → State → State
 after_leaving None q = q
 after_leaving (Some p) q = leave q p.task
@@ -16,6 +16,10 @@ after_leaving (Some p) q = leave q p.task
 abbrev pub after_falling_asleep : Option Contents → State → State
 after_falling_asleep None q = q
 after_falling_asleep (Some p) q = put_asleep q p
+
+abbrev pub after_dozing_off : Option Contents → State → State
+after_dozing_off None q = q
+after_dozing_off (Some p) q = put_dozing q p
 
 abbrev pub after_joining : Option Contents → State → State
 after_joining None q = q
@@ -53,12 +57,18 @@ answer_of_taking (End task) taken = answer_of_end taken
 answer_of_taking (Pull (Ok task)) taken = Pulled task
 answer_of_taking (Pull (Err refusal)) taken = refusal
 
+-- how a task that dozes off on a CPU is put into the queue of its home: away from there a doze is a sleep
+abbrev pub putting_of_doze : ℕ → ℕ → Putting
+putting_of_doze cpu home = if home == cpu then Dozing else Asleep
+
 -- a queue with the task that was taken, where one was
 abbrev pub after_putting : Putting → Option Contents → State → State
 after_putting Asleep taken q = after_falling_asleep taken q
+after_putting Dozing taken q = after_dozing_off taken q
 after_putting Runnable taken q = after_joining taken q
 
 -- there is room for it
 abbrev pub HasRoom : Putting → State → Contents → Type 0
 HasRoom Asleep q p = Unit {0}
+HasRoom Dozing q p = Unit {0}
 HasRoom Runnable q p = can_place q (sleeper_of p) ≡ true

@@ -1,7 +1,7 @@
 -- Who does a deed, and what it comes from.
 use Rattle.std.specs.Prelude.{ℕ}
 use Rattle.eevdf_ops.specs.{declared.deeds.Deed.Deed, declared.origin.Origin.Origin}
-use Rattle.eevdf_ops.specs.declared.deeds.Deed.TheVariants.{Tick, Pick, Yield, Sleep, Wake, Pull, Renice, Begin, End, Set, Rebase}
+use Rattle.eevdf_ops.specs.declared.deeds.Deed.TheVariants.{Tick, Pick, Yield, Sleep, Doze, Wake, Pull, Renice, Begin, End, Set, Rebase}
 use Rattle.eevdf_ops.specs.declared.deeds.Op.TheVariants as op
 use Rattle.eevdf_ops.specs.declared.origin.Origin.TheVariants.{Operation, Request}
 
@@ -11,6 +11,7 @@ parts (Tick cpu ns) = (cpu, Operation (op.Tick ns))
 parts (Pick cpu) = (cpu, Operation op.Pick)
 parts (Yield cpu) = (cpu, Operation op.Yield)
 parts (Sleep cpu task) = (cpu, Operation (op.Sleep task))
+parts (Doze cpu task) = (cpu, Operation (op.Doze task))
 parts (Wake cpu task sender) = (cpu, Request task sender)
 parts (Pull cpu source) = (cpu, Operation (op.Pull source))
 parts (Renice cpu task nice) = (cpu, Operation (op.Renice task nice))

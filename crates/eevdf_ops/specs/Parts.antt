@@ -4,10 +4,10 @@ use Rattle.eevdf_queue.specs.{State.State, State.Contents, Leaving.carried_runni
 use Rattle.eevdf_ops.specs.{declared.deeds.Deed.Deed, declared.deeds.Answer.Answer, declared.deeds.Answer.TheVariants.Nothing, declared.deeds.Answer.TheVariants.Pulled}
 use Rattle.eevdf_ops.specs.{declared.acts.Act.Act, Acts.act_of, LocalActs.local_done, Setup.home_of, WholeEnd.ending}
 use Rattle.eevdf_ops.specs.declared.acts.Act.TheVariants as act
-use Rattle.eevdf_ops.specs.declared.deeds.Deed.TheVariants.{Sleep, Pull, End}
+use Rattle.eevdf_ops.specs.declared.deeds.Deed.TheVariants.{Sleep, Doze, Pull, End}
 use Rattle.eevdf_ops.specs.WholePull.{offer, load_of, decision}
 pub use Rattle.eevdf_ops.specs.Origins.{decider}
-pub use Rattle.eevdf_ops.specs.Halves.{answer_of_sleep, answer_of_end, answer_of_pull, after_leaving, after_falling_asleep, after_joining}
+pub use Rattle.eevdf_ops.specs.Halves.{answer_of_sleep, answer_of_end, answer_of_pull, after_leaving, after_falling_asleep, after_joining, after_putting, putting_of_doze}
 
 -- the CPU whose queue a task may leave
 abbrev pub giver : Deed → ℕ
@@ -17,6 +17,7 @@ giver deed = decider deed
 -- the CPU whose queue a task may join
 abbrev pub taker : List ℕ → Deed → ℕ
 taker homes (Sleep cpu task) = home_of homes task
+taker homes (Doze cpu task) = home_of homes task
 taker homes (End cpu task) = home_of homes task
 taker homes deed = decider deed
 
@@ -33,6 +34,7 @@ pub record Moved : Type 0 where
 -- what the giver's queue has for it
 abbrev pub given : Deed → State → Moved
 given (Sleep cpu task) q = record { contents = carried_running q task; load = load_of q }
+given (Doze cpu task) q = record { contents = carried_running q task; load = load_of q }
 given (End cpu task) q = record { contents = ending q task; load = load_of q }
 given (Pull cpu source) q = record { contents = offer q; load = load_of q }
 given deed q = record { contents = None; load = load_of q }
@@ -45,6 +47,7 @@ done_alone (act.Transfer other t) q = (Nothing, q)
 -- what the decider's queue answers
 abbrev pub local_answer : Deed → State → Moved → Answer
 local_answer (Sleep cpu task) q moved = answer_of_sleep moved.contents
+local_answer (Doze cpu task) q moved = answer_of_sleep moved.contents
 local_answer (End cpu task) q moved = answer_of_end moved.contents
 local_answer (Pull cpu source) q moved = answer_of_pull (decision q moved.load moved.contents)
 local_answer deed q moved = (done_alone (act_of [] deed) q).0
@@ -67,6 +70,8 @@ only_at cpu c change q = if c == cpu then change q else q
 abbrev pub local_after : List ℕ → Deed → ℕ → State → Answer → Moved → State
 local_after homes (Sleep cpu task) c q answer moved =
     only_at (home_of homes task) c (after_falling_asleep moved.contents) (only_at cpu c (after_leaving moved.contents) q)
+local_after homes (Doze cpu task) c q answer moved =
+    only_at (home_of homes task) c (after_putting (putting_of_doze cpu (home_of homes task)) moved.contents) (only_at cpu c (after_leaving moved.contents) q)
 local_after homes (End cpu task) c q answer moved =
     only_at (home_of homes task) c (after_falling_asleep moved.contents) (only_at cpu c (after_leaving moved.contents) q)
 local_after homes (Pull cpu source) c q answer moved =

@@ -36,6 +36,7 @@ is_source cpus cpu source = nat_lt source cpus && not (source == cpu)
 -- what an operation names
 abbrev pub named : Op → Named
 named (op.Sleep task) = Task task
+named (op.Doze task) = Task task
 named (op.Post task) = Task task
 named (op.Renice task nice) = Task task
 named (op.End task) = Task task

@@ -15,6 +15,7 @@ operation_text (op.Tick ns) = codes "tick " ++ decimal ns
 operation_text op.Pick = codes "pick"
 operation_text op.Yield = codes "yield"
 operation_text (op.Sleep task) = codes "sleep " ++ decimal task
+operation_text (op.Doze task) = codes "doze " ++ decimal task
 operation_text (op.Post task) = codes "post " ++ decimal task
 operation_text op.Drain = codes "drain"
 operation_text (op.Pull source) = codes "pull " ++ decimal source

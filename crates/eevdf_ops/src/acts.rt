@@ -15,6 +15,8 @@ pub enum LocalAct {
     Yield,
     /// The task, if it runs here, falls asleep here, where it has its home.
     Sleep(TaskId),
+    /// The task, if it runs here, dozes off here, where it has its home: it keeps no debt, and its place.
+    Doze(TaskId),
     /// The task, if it sleeps here, becomes runnable. `sender` is the CPU that asked for it.
     Wake { task: TaskId, sender: CpuId },
     /// The task, if it is runnable here, gets this nice level.
@@ -32,7 +34,7 @@ pub enum LocalAct {
 /// How a task comes from the run queue of one CPU to that of another. One of the two does it, by `Transfer::apply`.
 #[derive(Clone, Copy, PartialEq, Eq, Debug)]
 pub enum Transfer {
-    /// The task, if it runs here, falls asleep at its home, which is the other CPU.
+    /// The task, if it runs here, falls asleep at its home, which is the other CPU. A doze away from home is this too.
     Sleep(TaskId),
     /// A task that waits at the other CPU becomes runnable here, where that levels the loads.
     Pull,

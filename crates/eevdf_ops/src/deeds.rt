@@ -14,6 +14,8 @@ pub enum Op {
     Yield,
     /// This task, if it runs here, falls asleep at its home.
     Sleep(TaskId),
+    /// This task, if it runs here, dozes off at its home. Where that is another CPU, it falls asleep there as by a sleep.
+    Doze(TaskId),
     /// A wake of this task is posted to its home.
     Post(TaskId),
     /// The wakes that were posted here are done, at most one of each sender.
@@ -46,6 +48,7 @@ impl Op {
             Op::Pick => Some(Deed::Pick { cpu }),
             Op::Yield => Some(Deed::Yield { cpu }),
             Op::Sleep(task) => Some(Deed::Sleep { cpu, task }),
+            Op::Doze(task) => Some(Deed::Doze { cpu, task }),
             Op::Pull(source) => Some(Deed::Pull { cpu, source }),
             Op::Renice(task, nice) => Some(Deed::Renice { cpu, task, nice }),
             Op::Begin(task, nice, slice) => Some(Deed::Begin {
@@ -66,8 +69,8 @@ impl Op {
         }
     }
 
-    /// What the operation does, where it touches its CPU's run queue alone, whatever homes the tasks have. `None` of a sleep, an end, a
-    /// post, a drain and a pull. Of a deed `parted` says the same, and by the homes what a sleep and an end do.
+    /// What the operation does, where it touches its CPU's run queue alone, whatever homes the tasks have. `None` of a sleep, a doze,
+    /// an end, a post, a drain and a pull. Of a deed `parted` says the same, and by the homes what a sleep, a doze and an end do.
     pub fn local(self) -> Option<LocalAct>
         ensures { result ≡ local_of self }
     {
@@ -79,7 +82,7 @@ impl Op {
             Op::Begin(task, nice, slice) => Some(LocalAct::Begin(task, nice, slice)),
             Op::Set(task, nice, slice) => Some(LocalAct::Set(task, nice, slice)),
             Op::Rebase => Some(LocalAct::Rebase),
-            Op::Sleep(_) | Op::End(_) | Op::Post(_) | Op::Drain | Op::Pull(_) => None,
+            Op::Sleep(_) | Op::Doze(_) | Op::End(_) | Op::Post(_) | Op::Drain | Op::Pull(_) => None,
         }
     }
 }
@@ -102,6 +105,13 @@ pub enum Deed {
     },
     /// The task, if it runs on the CPU, falls asleep at its home with the lag that it keeps.
     Sleep {
+        cpu: CpuId,
+        task: TaskId,
+    },
+    /// The task, if it runs on the CPU, dozes off at its home: it keeps of its lag what it is owed and no debt, and its place, the
+    /// virtual runtime at which it leaves, before which no wake puts it (this project's own profile). Where its home is another CPU,
+    /// it falls asleep there as by a sleep, since virtual times of two queues can't be compared.
+    Doze {
         cpu: CpuId,
         task: TaskId,
     },
@@ -162,9 +172,9 @@ pub enum Answer {
     Idle,
     /// The running task yielded.
     Yielded,
-    /// The task fell asleep and keeps this lag, in virtual time.
+    /// The task fell asleep, and this lag is kept, in virtual time; of a doze at home no debt is kept.
     Slept(i64),
-    /// The task that was to sleep doesn't run on the CPU.
+    /// The task that was to sleep or to doze doesn't run on the CPU.
     NotRunning,
     /// The task woke.
     Woken,

@@ -3,15 +3,16 @@
 ghost use Rattle.std.specs.Prelude.{◌≡◌, IfSome};
 ghost use Rattle.eevdf_queue.specs.Leaving.{IsNowhere};
 ghost use Rattle.eevdf_ops.specs.{Halves.CanTake, Halves.HasRoom, Halves.after_putting};
-ghost use Rattle.eevdf_ops.specs.{Halves.answer_of_taking, Halves.taken_out, Parts.after_leaving};
+ghost use Rattle.eevdf_ops.specs.{Halves.answer_of_taking, Halves.putting_of_doze, Halves.taken_out, Parts.after_leaving};
 
+use crate::cpu_id::CpuId;
 use crate::deeds::Answer;
 use eevdf_queue::{Parcel, Queue, TaskId};
 
-/// Which task is taken out of a queue: the half in which a sleep, an end and a pull are answered.
+/// Which task is taken out of a queue: the half in which a sleep, a doze, an end and a pull are answered.
 #[derive(Clone, Copy)]
 pub enum Taking {
-    /// This task, where it runs: it falls asleep with the lag that it keeps.
+    /// This task, where it runs: it falls asleep with the lag that it keeps, or dozes off.
     Sleep(TaskId),
     /// This task, where it is runnable: it ends, without its lag.
     End(TaskId),
@@ -51,11 +52,24 @@ impl Taking {
 pub enum Putting {
     /// It sleeps there.
     Asleep,
+    /// It dozes there, in the queue that it left.
+    Dozing,
     /// It is runnable there, placed as by `Queue::attach`.
     Runnable,
 }
 
 impl Putting {
+    /// How a task that dozes off on a CPU is put into the queue of its home: away from there a doze is a sleep.
+    pub fn dozing(cpu: CpuId, home: CpuId) -> Putting
+        ensures { result ≡ putting_of_doze cpu home }
+    {
+        if home.get() == cpu.get() {
+            Putting::Dozing
+        } else {
+            Putting::Asleep
+        }
+    }
+
     /// Puts the task that was taken into the queue, where one was.
     #[inline(always)]
     pub fn put(self, taker: &mut Queue, parcel: Option<Parcel>)
@@ -66,6 +80,7 @@ impl Putting {
         if let Some(parcel) = parcel {
             match self {
                 Putting::Asleep => taker.put_asleep(parcel),
+                Putting::Dozing => taker.put_dozing(parcel),
                 Putting::Runnable => taker.attach(parcel),
             }
         }

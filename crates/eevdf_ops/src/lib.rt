@@ -9,8 +9,8 @@
 //!
 //! A deed is parted into its CPU and an act ([`parted`]): a [`LocalAct`] on the queue of that CPU alone, or a
 //! [`Transfer`], by which a task goes from one queue to another. [`Solo`] does acts on the queues that it has,
-//! threads on those that they have locked, by [`LocalAct::apply`] and [`Transfer::apply`]. In a sleep, an end and a
-//! pull a task is taken out of one queue and put into another or the same ([`Taking::take`], [`Putting::put`]).
+//! threads on those that they have locked, by [`LocalAct::apply`] and [`Transfer::apply`]. In a sleep, a doze, an end
+//! and a pull a task is taken out of one queue and put into another or the same ([`Taking::take`], [`Putting::put`]).
 //! A player does these halves one by one, and others may do steps between them.
 #![tactic(auto)]
 

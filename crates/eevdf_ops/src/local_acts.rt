@@ -1,10 +1,11 @@
 //! How an act is done on the one run queue that it touches.
 
-ghost use Rattle.std.specs.Prelude.{◌≡◌};
-ghost use Rattle.eevdf_ops.specs.Halves.{CanTake, answer_of_taking, taken_out};
+ghost use Rattle.std.specs.Prelude.{◌≡◌, IfSome};
+ghost use Rattle.eevdf_queue.specs.Leaving.{leave};
+ghost use Rattle.eevdf_ops.specs.Halves.{CanTake, HasRoom, after_putting, answer_of_taking, taken_out};
 ghost use Rattle.eevdf_ops.specs.{LocalActs.local_done, PickDepths.HasActDepth};
 ghost use Rattle.eevdf_ops.specs.OneQueue.{one_begin, one_rebase, one_set, one_wake, one_yield};
-ghost use Rattle.eevdf_ops.specs.Parts.{after_falling_asleep, after_leaving};
+ghost use Rattle.eevdf_ops.specs.Parts.{after_leaving};
 ghost use Rattle.eevdf_ops.specs.declared.acts.LocalAct.TheVariants as local;
 
 use crate::acts::LocalAct;
@@ -26,6 +27,7 @@ impl LocalAct {
             LocalAct::Pick => Answer::from(queue.pick()),
             LocalAct::Yield => yield_now(queue),
             LocalAct::Sleep(task) => sleep_here(queue, task),
+            LocalAct::Doze(task) => doze_here(queue, task),
             LocalAct::Wake { task, .. } => wake(queue, task),
             LocalAct::Renice(task, nice) => Answer::from(queue.renice(task, nice)),
             LocalAct::Begin(task, nice, slice) => begin(queue, task, nice, slice),
@@ -45,7 +47,16 @@ fn sleep_here(queue: &mut Queue, task: TaskId) -> Answer
     ensures answer { result ≡ (local_done (local.Sleep task) queue.old.state).0 }
     ensures after { queue.new.state ≡ (local_done (local.Sleep task) queue.old.state).1 }
 {
-    fall_asleep(queue, Taking::Sleep(task))
+    fall_asleep(queue, Taking::Sleep(task), Putting::Asleep)
+}
+
+/// Lets a task doze off in the queue where it runs, at its home.
+#[inline(never)]
+fn doze_here(queue: &mut Queue, task: TaskId) -> Answer
+    ensures answer { result ≡ (local_done (local.Doze task) queue.old.state).0 }
+    ensures after { queue.new.state ≡ (local_done (local.Doze task) queue.old.state).1 }
+{
+    fall_asleep(queue, Taking::Sleep(task), Putting::Dozing)
 }
 
 /// Lets a task end in the queue that is its home.
@@ -54,19 +65,21 @@ fn end_here(queue: &mut Queue, task: TaskId) -> Answer
     ensures answer { result ≡ (local_done (local.End task) queue.old.state).0 }
     ensures after { queue.new.state ≡ (local_done (local.End task) queue.old.state).1 }
 {
-    fall_asleep(queue, Taking::End(task))
+    fall_asleep(queue, Taking::End(task), Putting::Asleep)
 }
 
 /// Takes a task out of the queue and puts it to sleep there, at its home.
 #[inline(always)]
-fn fall_asleep(queue: &mut Queue, taking: Taking) -> Answer
-    requires { CanTake taking queue.old.state }
+fn fall_asleep(queue: &mut Queue, taking: Taking, putting: Putting) -> Answer
+    requires taking { CanTake taking queue.old.state }
+    requires room { IfSome (taken_out taking queue.old.state) (λ parcel.
+        HasRoom putting (leave queue.old.state parcel.task) parcel) }
     ensures answer { result ≡ answer_of_taking taking (taken_out taking queue.old.state) }
-    ensures after { queue.new.state ≡ after_falling_asleep (taken_out taking queue.old.state)
+    ensures after { queue.new.state ≡ after_putting putting (taken_out taking queue.old.state)
         (after_leaving (taken_out taking queue.old.state) queue.old.state) }
 {
     let (answer, parcel) = taking.take(queue);
-    Putting::Asleep.put(queue, parcel);
+    putting.put(queue, parcel);
     answer
 }
 

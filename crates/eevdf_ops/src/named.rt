@@ -28,6 +28,7 @@ impl Op {
     {
         match self {
             Op::Sleep(task)
+            | Op::Doze(task)
             | Op::Post(task)
             | Op::Renice(task, _)
             | Op::End(task)

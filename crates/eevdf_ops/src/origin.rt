@@ -27,6 +27,7 @@ impl Deed {
             Deed::Pick { cpu } => (cpu, Origin::Operation(Op::Pick)),
             Deed::Yield { cpu } => (cpu, Origin::Operation(Op::Yield)),
             Deed::Sleep { cpu, task } => (cpu, Origin::Operation(Op::Sleep(task))),
+            Deed::Doze { cpu, task } => (cpu, Origin::Operation(Op::Doze(task))),
             Deed::Wake { cpu, task, sender } => (cpu, Origin::Request { task, sender }),
             Deed::Pull { cpu, source } => (cpu, Origin::Operation(Op::Pull(source))),
             Deed::Renice { cpu, task, nice } => (cpu, Origin::Operation(Op::Renice(task, nice))),

@@ -1,7 +1,7 @@
 //! A deed, parted into its CPU and what it does.
 
 ghost use Rattle.std.specs.Prelude.{◌≡◌, ℕ, true};
-ghost use Rattle.eevdf_ops.specs.Acts.{act_from, act_of, end_from, sleep_from};
+ghost use Rattle.eevdf_ops.specs.Acts.{act_from, act_of, doze_from, end_from, sleep_from};
 ghost use Rattle.eevdf_ops.specs.{Origins.decider, Setup.has_named, Setup.is_allowed, Setup.named};
 ghost use Rattle.eevdf_ops.specs.declared.origin.Origin.TheVariants.{Operation};
 
@@ -36,6 +36,7 @@ fn act_by(homes: &[CpuId], cpu: CpuId, operation: Op) -> Act
 {
     match operation {
         Op::Sleep(task) => sleep_from(cpu, task, Homes::Alone(homes).home(task)),
+        Op::Doze(task) => doze_from(cpu, task, Homes::Alone(homes).home(task)),
         Op::End(task) => end_from(cpu, task, Homes::Alone(homes).home(task)),
         Op::Pull(source) => Act::Transfer(source, Transfer::Pull),
         _ => Act::Local(operation.local().unwrap_or(LocalAct::Pick)),
@@ -49,6 +50,18 @@ fn sleep_from(cpu: CpuId, task: TaskId, home: CpuId) -> Act
 {
     if home.get() == cpu.get() {
         Act::Local(LocalAct::Sleep(task))
+    } else {
+        Act::Transfer(home, Transfer::Sleep(task))
+    }
+}
+
+/// A doze on a CPU of a task with this home. Away from there it is a sleep.
+#[inline(always)]
+fn doze_from(cpu: CpuId, task: TaskId, home: CpuId) -> Act
+    ensures { result ≡ doze_from cpu task home }
+{
+    if home.get() == cpu.get() {
+        Act::Local(LocalAct::Doze(task))
     } else {
         Act::Transfer(home, Transfer::Sleep(task))
     }

@@ -17,6 +17,7 @@ impl fmt::Display for Op {
             Op::Pick => f.write_str("pick"),
             Op::Yield => f.write_str("yield"),
             Op::Sleep(task) => write!(f, "sleep {task}"),
+            Op::Doze(task) => write!(f, "doze {task}"),
             Op::Post(task) => write!(f, "post {task}"),
             Op::Drain => f.write_str("drain"),
             Op::Pull(source) => write!(f, "pull {source}"),
