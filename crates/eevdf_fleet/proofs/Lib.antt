@@ -34,6 +34,7 @@ pub mod ProgramRooms
 pub mod ProgramDrains
 pub mod ProgramOperations
 pub mod ProgramPlaces
+pub mod OperationDeeds
 pub mod EndlessSeats
 pub mod Sweeps
 pub mod EndlessSweeps

@@ -126,6 +126,23 @@ impl<N: Names> Fleet<N> {
         self.operate(&Call::alone(rt), seat, Op::Sleep(task))
     }
 
+    /// Lets a task doze off at its home, if it runs on the seat's CPU (`Deed::Doze`): it keeps of its lag what it is owed and no debt, and
+    /// its place, the virtual runtime at which it leaves, before which no wake puts it (this project's own profile). Where its home is
+    /// another CPU, it falls asleep there as by `sleep`, since virtual times of two queues can't be compared. `Slept` has the lag that it
+    /// leaves with, in virtual time; `NotRunning` changes nothing. `SeatFull` where the seat has no room.
+    pub fn doze<R: Wait>(
+        &self,
+        rt: &R,
+        seat: &mut Seat<N>,
+        task: TaskId,
+    ) -> Result<Answer, SeatFull>
+        requires { is_task (homes_of (setup_of N.kit)) task ≡ true }
+        ensures cases { IsLogged (Deed.Doze seat.old.cpu task) seat.old seat.new result }
+        ensures full { IsErr result ↔ (seat.old.room < 1) }
+    {
+        self.operate(&Call::alone(rt), seat, Op::Doze(task))
+    }
+
     /// Moves the waiting task of latest virtual deadline, of equal ones that of highest number, from the source to the seat's
     /// CPU, where the load of the CPU with it is still below that of the source (`Deed::Pull`; the rule is this project's
     /// own). `Nothing`: no task waits there; `Balanced`: the load wouldn't be below; `Range`: it couldn't be placed in
@@ -215,7 +232,7 @@ impl<N: Names> Fleet<N> {
         self.drain_by(&Call::alone(rt), seat)
     }
 
-    /// Whether the setup has a task: the condition of `sleep`, `renice`, `end`, `set` and `Seat::post`.
+    /// Whether the setup has a task: the condition of `sleep`, `doze`, `renice`, `end`, `set` and `Seat::post`.
     pub fn has_task(&self, task: TaskId) -> bool
         ensures { result ≡ is_task (homes_of (setup_of N.kit)) task }
     {

@@ -40,6 +40,7 @@ impl<N: Names> Fleet<N> {
             Op::Pick => self.pick(rt, seat),
             Op::Yield => self.yield_now(rt, seat),
             Op::Sleep(task) => self.sleep(rt, seat, task),
+            Op::Doze(task) => self.doze(rt, seat, task),
             Op::Renice(task, nice) => self.renice(rt, seat, task, nice),
             Op::Pull(source) => self.pull(rt, seat, source),
             Op::Begin(task, nice, slice) => self.begin(rt, seat, task, nice, slice),

@@ -2,20 +2,20 @@
 use Rattle.std.proofs.Common.{◌≡◌, ℕ, Bool, true, false, cond, ◌||◌, List, [], ◌∷◌, set, refl, sym, ap, subst, ◌∙◌}
 use Rattle.std.specs.Prelude.{◌==◌, Option, Some, None, Result, Ok, Err}
 use Rattle.std.specs.{Option.unwrap_or, FinMap.contains_key, FinMap.get}
-use Rattle.eevdf_queue.specs.{declared.entry.Entry.Entry, Wake.wake_sleeper, Wake.wake_to, Moves.put_asleep, Moves.sleeper_of, Moves.with_runnable}
+use Rattle.eevdf_queue.specs.{declared.entry.Entry.Entry, Wake.wake_sleeper, Wake.wake_to, Wake.waking_entry, Moves.put_asleep, Moves.sleeper_of, Moves.with_runnable}
 use Rattle.eevdf_queue.specs.{declared.sleeper.Sleeper.Sleeper, Placing.placed_entry, State.State, State.Contents}
 use Rattle.eevdf_queue.specs.Leaving.{carried_running, leave, without_entry}
 use Rattle.eevdf_ops.specs.{declared.deeds.Answer.Answer, declared.deeds.Deed.Deed, declared.deeds.Line.Line}
 use Rattle.eevdf_ops.specs.{Histories.machine_told, Machine.Machine, Machine.queue_at, Programs.deeds_of, Setup.home_of}
-use Rattle.eevdf_ops.specs.{LocalActs.slept_here, Transfers.pulled, Transfers.slept_away, Transfers.ended_away, WholeEnd.ending, Whole.at_two, Whole.machine_after, Whole.whole}
-use Rattle.eevdf_ops.proofs.WholeActs.{sleep_by_home, end_by_home}
-use Rattle.eevdf_ops.specs.declared.deeds.Deed.TheVariants.{Sleep, Wake, Pull, End}
+use Rattle.eevdf_ops.specs.{LocalActs.dozed_here, LocalActs.slept_here, Transfers.pulled, Transfers.slept_away, Transfers.ended_away, WholeEnd.ending, Whole.at_two, Whole.machine_after, Whole.whole}
+use Rattle.eevdf_ops.proofs.WholeActs.{sleep_by_home, doze_by_home, end_by_home}
+use Rattle.eevdf_ops.specs.declared.deeds.Deed.TheVariants.{Sleep, Doze, Wake, Pull, End}
 use Rattle.eevdf_ops.specs.{Origins.decider, Origins.origin_of}
 use Rattle.eevdf_ops.specs.Parts.{after_leaving, giver, only_at}
 use Rattle.eevdf_ops.specs.WholePull.{pull_decision, with_task}
 use Rattle.eevdf_ops.proofs.{Carried.running-carries, Carried.ending-carries, MachinePlaces.SleepsAtHome, MachinePlaces.each-set}
 use Rattle.eevdf_ops.proofs.MapCounts.{contains-insert, contains-removed, equal}
-use Rattle.eevdf_ops.proofs.{Origins.operation_in, QueuePlaces.own-same}
+use Rattle.eevdf_ops.proofs.{Origins.operation_in, QueuePlaces.own-same, QueuePlaces.owed}
 use Rattle.eevdf_steps.specs.{Counters.Counters, Counters.holder, Counters.holds, Plan.Plan, Plan.callers, Work.Work, Serial.IsSerial, Serial.begun_by}
 use Rattle.eevdf_steps.specs.UnderWay.{UnderWay, leaves, queue_seen}
 use Rattle.eevdf_steps.proofs.{Ready.least_found, SerialSteps.free_queue}
@@ -37,7 +37,7 @@ wake_to_less q t (Some e) = λ task is. contains-removed q.asleep t task is
 
 wake_sleeper_less : (q : State) (t : ℕ) (o : Option Sleeper) → IsNoMore q (wake_sleeper q t o).1
 wake_sleeper_less q t None = λ task is. is
-wake_sleeper_less q t (Some s) = wake_to_less q t (placed_entry q s)
+wake_sleeper_less q t (Some s) = wake_to_less q t (waking_entry q s (get q.places t))
 
 leave_less : (q : State) (t : ℕ) (o : Option Entry) → IsNoMore q (without_entry q t o)
 leave_less q t None = λ task is. is
@@ -74,6 +74,11 @@ module _ (homes : List ℕ) where
   here_at_home cpu task q (Some p) of home here =
       falls_at_home homes cpu (leave q p.task) p (ap (home_of homes) (of p refl) ∙ home) (still homes cpu q (leave q p.task) (leave_less q p.task _) here)
 
+  dozed_at_home : (cpu task : ℕ) (q : State) (o : Option Contents) → ((p : Contents) → o ≡ Some p → p.task ≡ task) → home_of homes task ≡ cpu → SleepsAtHome homes cpu q → SleepsAtHome homes cpu (dozed_here o q).1
+  dozed_at_home cpu task q None of home here = here
+  dozed_at_home cpu task q (Some p) of home here =
+      falls_at_home homes cpu (leave q p.task) (owed p) (ap (home_of homes) (of p refl) ∙ home) (still homes cpu q (leave q p.task) (leave_less q p.task _) here)
+
   -- two queues, each with the sleepers of its own
   abbrev BothAtHome : ℕ → ℕ → State × State → Type 0
   BothAtHome cpu other qs = SleepsAtHome homes cpu qs.0 × SleepsAtHome homes other qs.1
@@ -102,6 +107,12 @@ module _ (homes : List ℕ) where
       let of : (p : Contents) → o ≡ Some p → p.task ≡ task = λ p e. (running-carries (queue_at m cpu) task p e).of_task in
       sleep_by_home (λ (r : Answer × Machine). AllAtHome homes r.1) homes cpu task m
       (λ home. set_at_home m cpu _ (here_at_home cpu task (queue_at m cpu) o of home (all cpu)) all)
+      (λ apart. two_at_home m cpu (home_of homes task) (slept_away o (queue_at m cpu) (queue_at m (home_of homes task))) (away_at_home cpu task (queue_at m cpu) (queue_at m (home_of homes task)) o of (all cpu, all (home_of homes task))) all)
+  whole_at_home (Doze cpu task) m all =
+      let o : Option Contents = carried_running (queue_at m cpu) task in
+      let of : (p : Contents) → o ≡ Some p → p.task ≡ task = λ p e. (running-carries (queue_at m cpu) task p e).of_task in
+      doze_by_home (λ (r : Answer × Machine). AllAtHome homes r.1) homes cpu task m
+      (λ home. set_at_home m cpu _ (dozed_at_home cpu task (queue_at m cpu) o of home (all cpu)) all)
       (λ apart. two_at_home m cpu (home_of homes task) (slept_away o (queue_at m cpu) (queue_at m (home_of homes task))) (away_at_home cpu task (queue_at m cpu) (queue_at m (home_of homes task)) o of (all cpu, all (home_of homes task))) all)
   whole_at_home (End cpu task) m all =
       let q : State = queue_at m cpu in

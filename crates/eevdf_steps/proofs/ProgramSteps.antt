@@ -70,6 +70,7 @@ drains p c (suc n) s deeds h = grind (arith, drains p c n (s + 1) h.fits.rest, s
 
 operation_fits : (plan : Plan) (p : ℕ) (o : Op) (deeds : List Deed) → FitsSteps p deeds (steps_in o (micros_of plan p o)) → FitsOperation p deeds o
 operation_fits plan p (op.Sleep t) deeds h = grind arith
+operation_fits plan p (op.Doze t) deeds h = grind arith
 operation_fits plan p (op.End t) deeds h = grind arith
 operation_fits plan p (op.Pull s) deeds h = moves_between p (min p s) (max p s) (op.Pull s) (deed.Pull p s) deeds refl h
 operation_fits plan p (op.Post t) deeds h = h.joined ∙ h.fits

@@ -13,10 +13,10 @@ use Rattle.eevdf_ops.specs.{Histories.machine_told}
 use Rattle.eevdf_ops.specs.declared.deeds.Op.TheVariants as op
 use Rattle.eevdf_ops.specs.declared.deeds.Deed.TheVariants as deed
 use Rattle.eevdf_ops.specs.{WholeEnd.ending}
-use Rattle.eevdf_ops.specs.Parts.{after_falling_asleep, after_leaving, answer_of_end, answer_of_sleep, giver, only_at}
+use Rattle.eevdf_ops.specs.Parts.{after_leaving, after_putting, answer_of_end, answer_of_sleep, giver, only_at, putting_of_doze}
 use Rattle.eevdf_ops.specs.PartsLaws as laws
 use Rattle.eevdf_ops.proofs.LocalParts.{whole-after, whole-answer}
-use Rattle.eevdf_ops.specs.declared.halves.Putting.TheVariants.{Asleep, Runnable}
+use Rattle.eevdf_ops.specs.declared.halves.Putting.{Putting, TheVariants.Asleep, TheVariants.Runnable}
 use Rattle.eevdf_ops.specs.OneQueue.{one_tick, one_pick, one_yield, one_renice, one_begin, one_set, one_rebase}
 use Rattle.eevdf_steps.specs.declared.micro.Micro.TheVariants.{Acquire, Act, Detach, Attach, Commit, Take, Settle, Release, Post}
 use Rattle.eevdf_steps.specs.Plan.{IsSound, Plan, callers, home, is_sound_op}
@@ -112,6 +112,10 @@ module _ (plan : Plan) (start : Machine) (counters : Counters) (p : ℕ) (w : Wo
       let own : holds plan counters p p ≡ true = holds_covered (op.Sleep t) s.at.walk s.at.fits.covers p ∙ or_left (p == p) (p == home plan t) (eq-eqb p p refl) in
       local_serial _ s (own_leaves (deed.Sleep p t) (carried_running (queue_at w.machine p) t) answer_of_sleep s.at (ap (λ (n : Option Step). under_way p n) s.at.fits.follows) refl own
       (whole-answer plan.homes (deed.Sleep p t) told) (ap (λ (q : State). carried_running q t) (sym (sees_history s.at refl p own))))
+  detach_serial h (op.Doze t) f s =
+      let own : holds plan counters p p ≡ true = holds_covered (op.Doze t) s.at.walk s.at.fits.covers p ∙ or_left (p == p) (p == home plan t) (eq-eqb p p refl) in
+      local_serial _ s (own_leaves (deed.Doze p t) (carried_running (queue_at w.machine p) t) answer_of_sleep s.at (ap (λ (n : Option Step). under_way p n) s.at.fits.follows) refl own
+      (whole-answer plan.homes (deed.Doze p t) told) (ap (λ (q : State). carried_running q t) (sym (sees_history s.at refl p own))))
   detach_serial h (op.End t) f s =
       let own : holds plan counters p p ≡ true = holds_covered (op.End t) s.at.walk s.at.fits.covers p ∙ or_left (p == p) (p == home plan t) (eq-eqb p p refl) in
       local_serial _ s (own_leaves (deed.End p t) (ending (queue_at w.machine p) t) answer_of_end s.at (ap (λ (n : Option Step). under_way p n) s.at.fits.follows) refl own
@@ -127,22 +131,24 @@ module _ (plan : Plan) (start : Machine) (counters : Counters) (p : ℕ) (w : Wo
   holds_own_queue : (q : ℕ) → Serial (op.Pull q) Attach → holds plan counters p p ≡ true
   holds_own_queue q s = holds_covered (op.Pull q) s.at.walk s.at.fits.covers p ∙ or_left (p == p) (p == q) (eq-eqb p p refl)
 
-  -- the task in hand, of a sleep or of an end, is put to sleep at its home
-  home_serial : (o : Op) (d : Deed) (t : ℕ) → Serial o Attach → deed_of p o ≡ Some d → (is_sound_op plan o ≡ true → t < length plan.homes)
+  -- the task in hand, of a sleep, a doze or an end, is put in at its home
+  home_serial : (o : Op) (d : Deed) (t : ℕ) (how : Putting) → Serial o Attach → deed_of p o ≡ Some d → (is_sound_op plan o ≡ true → t < length plan.homes)
       → ((c : ℕ) → touched plan p o c ≡ ((c == p) || (c == home plan t)))
       → (laws.Fits plan.homes d told → (c : ℕ) → queue_at (whole plan.homes d told).1 c
-      ≡ only_at (home plan t) c (after_falling_asleep (leaves plan.homes told d)) (only_at (giver d) c (after_leaving (leaves plan.homes told d)) (queue_at told c)))
-      → Leaves (put_in w p (home plan t) Asleep (hand w p)) []
-  home_serial o d t s is task covers after =
-      local_serial _ s (put_step (home plan t) Asleep d (at_attach d s.at is)
+      ≡ only_at (home plan t) c (after_putting how (leaves plan.homes told d)) (only_at (giver d) c (after_leaving (leaves plan.homes told d)) (queue_at told c)))
+      → Leaves (put_in w p (home plan t) how (hand w p)) []
+  home_serial o d t how s is task covers after =
+      local_serial _ s (put_step (home plan t) how d (at_attach d s.at is)
       (holds_covered o s.at.walk s.at.fits.covers (home plan t) ∙ covers (home plan t)
       ∙ or_right (home plan t == p) (home plan t == home plan t) (eq-eqb (home plan t) (home plan t) refl))
       (home_below plan t s.sound (task (next_sound_op plan counters p (step_in o Attach) s.sound s.at.next)))
       (after (deed_fits plan counters p (step_in o Attach) d s.sound s.at.next is told s.at.long)))
 
   attach_serial : (o : Op) (f : Option ℕ) → Serial o Attach → Leaves (works (home_for plan p o) w p o Attach f) []
-  attach_serial (op.Sleep t) f s = home_serial (op.Sleep t) (deed.Sleep p t) t s refl (ltb-true t (length plan.homes)) (λ c. refl) (λ fits c. whole-after plan.homes (deed.Sleep p t) told c fits)
-  attach_serial (op.End t) f s = home_serial (op.End t) (deed.End p t) t s refl (ltb-true t (length plan.homes)) (λ c. refl) (λ fits c. whole-after plan.homes (deed.End p t) told c fits)
+  attach_serial (op.Sleep t) f s = home_serial (op.Sleep t) (deed.Sleep p t) t Asleep s refl (ltb-true t (length plan.homes)) (λ c. refl) (λ fits c. whole-after plan.homes (deed.Sleep p t) told c fits)
+  attach_serial (op.Doze t) f s =
+      home_serial (op.Doze t) (deed.Doze p t) t (putting_of_doze p (home plan t)) s refl (ltb-true t (length plan.homes)) (λ c. refl) (λ fits c. whole-after plan.homes (deed.Doze p t) told c fits)
+  attach_serial (op.End t) f s = home_serial (op.End t) (deed.End p t) t Asleep s refl (ltb-true t (length plan.homes)) (λ c. refl) (λ fits c. whole-after plan.homes (deed.End p t) told c fits)
   attach_serial (op.Pull q) f s =
       local_serial _ s (put_step p Runnable (deed.Pull p q) (at_attach (deed.Pull p q) s.at refl) (holds_own_queue q s) s.at.caller
       (λ c. whole-after plan.homes (deed.Pull p q) told c (deed_fits plan counters p (step_in (op.Pull q) Attach) (deed.Pull p q) s.sound s.at.next refl told s.at.long)))

@@ -41,6 +41,7 @@ home_for_below plan p o s h k = grind (arith, home_below, ltb-true)
 
 micros_sound : (plan : Plan) (p : ℕ) (o : Op) → IsSound plan → p < callers plan → is_sound_op plan o ≡ true → list_all (is_sound_micro plan) (micros_of plan p o) ≡ true
 micros_sound plan p (op.Sleep task) s h k = grind (arith, common_steps)
+micros_sound plan p (op.Doze task) s h k = grind (arith, common_steps)
 micros_sound plan p (op.End task) s h k = grind (arith, common_steps)
 micros_sound plan p (op.Pull source) s h k = both_locked plan p source h (ltb-true source (callers plan) k)
 micros_sound plan p op.Drain s h k = locked plan p (draining (callers plan) 0) h (drains plan (callers plan) 0 (omega arith))

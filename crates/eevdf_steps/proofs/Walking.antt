@@ -77,6 +77,8 @@ op_walks : (plan : Plan) (p : ℕ) (o : Op) (rest : List Step) → IsSound plan 
     → Walks plan p [] (map (step_in o) (micros_of plan p o) ++ rest)
 op_walks plan p (op.Sleep t) rest s h k e r =
     sleep_walks plan p t (op.Sleep t) rest (p == home plan t) h (home_below plan t s (ltb-true t (length plan.homes) k)) refl refl (λ c. refl) refl r
+op_walks plan p (op.Doze t) rest s h k e r =
+    sleep_walks plan p t (op.Doze t) rest (p == home plan t) h (home_below plan t s (ltb-true t (length plan.homes) k)) refl refl (λ c. refl) refl r
 op_walks plan p (op.End t) rest s h k e r =
     sleep_walks plan p t (op.End t) rest (p == home plan t) h (home_below plan t s (ltb-true t (length plan.homes) k)) refl refl (λ c. refl) refl r
 op_walks plan p (op.Pull q) rest s h k e r = both_walk plan p q (op.Pull q) rest h (ltb-true q (callers plan) k) (other_source q p e) refl refl (λ c. refl) r

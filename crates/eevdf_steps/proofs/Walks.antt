@@ -32,6 +32,7 @@ is_falling (h ∷ held) = is_above h held && is_falling held
 -- a deed on the caller's own queue alone
 abbrev pub is_acting : Op → Bool
 is_acting (op.Sleep t) = false
+is_acting (op.Doze t) = false
 is_acting (op.End t) = false
 is_acting (op.Pull s) = false
 is_acting (op.Post t) = false
@@ -41,6 +42,7 @@ is_acting _ = true
 -- a deed that moves a task
 abbrev pub is_moving : Op → Bool
 is_moving (op.Sleep t) = true
+is_moving (op.Doze t) = true
 is_moving (op.End t) = true
 is_moving (op.Pull s) = true
 is_moving _ = false
@@ -53,6 +55,7 @@ is_locking _ = true
 -- the CPUs whose queues an operation reads or writes
 abbrev pub touched : Plan → ℕ → Op → ℕ → Bool
 touched plan cpu (op.Sleep t) c = (c == cpu) || (c == home plan t)
+touched plan cpu (op.Doze t) c = (c == cpu) || (c == home plan t)
 touched plan cpu (op.End t) c = (c == cpu) || (c == home plan t)
 touched plan cpu (op.Pull s) c = (c == cpu) || (c == s)
 touched plan cpu (op.Post t) c = false

@@ -1,17 +1,17 @@
 -- Every step of a caller keeps each task in one place.
-use Rattle.std.proofs.Common.{◌≡◌, ℕ, zero, suc, ◌+◌, ◌<◌, ◌≤◌, true, List, [], ◌∷◌, length, get_or, set, ◌∙◌, arith, refl}
+use Rattle.std.proofs.Common.{◌≡◌, ℕ, zero, suc, ◌+◌, ◌<◌, ◌≤◌, Bool, true, false, cond, List, [], ◌∷◌, length, get_or, set, arith, refl}
 use Rattle.std.proofs.Math.ListN.{length-set}
-use Rattle.std.specs.Prelude.{IfSome, Option, Some, None}
+use Rattle.std.specs.Prelude.{◌==◌, IfSome, Option, Some, None}
 use Rattle.eevdf_queue.specs.{State.State, State.Contents, Leaving.leave}
 use Rattle.eevdf_ops.specs.{Acts.local_of, LocalActs.local_done, declared.acts.LocalAct.LocalAct, declared.deeds.Op.Op, declared.deeds.Answer.Answer, declared.halves.Putting.Putting, declared.halves.Taking.Taking}
-use Rattle.eevdf_ops.specs.declared.halves.Putting.TheVariants.{Asleep, Runnable}
+use Rattle.eevdf_ops.specs.declared.halves.Putting.TheVariants.{Asleep, Dozing, Runnable}
 use Rattle.eevdf_ops.specs.declared.halves.Taking.TheVariants as taking
 use Rattle.eevdf_ops.specs.{Halves.taken_out, Machine.queue_at, Setup.is_task, OneQueue.one_wake, WholePull.pull_decision, WholePull.task_of}
 use Rattle.eevdf_ops.specs.Halves as halves
 use Rattle.eevdf_ops.specs.declared.deeds.Op.TheVariants as op
 use Rattle.eevdf_ops.specs.Places.{count, places, places_in}
 use Rattle.eevdf_ops.proofs.MachinePlaces.{places-set, places-at}
-use Rattle.eevdf_ops.proofs.QueuePlaces.{IsSame, IsWith, IsWithout, own-same, wake-same, asleep-with, runnable-with}
+use Rattle.eevdf_ops.proofs.QueuePlaces.{IsSame, IsWith, IsWithout, own-same, wake-same, asleep-with, dozing-with, runnable-with}
 use Rattle.eevdf_ops.proofs.{Carried.leaves-without, Carried.taken-carries, Pulling.with_task-put}
 use Rattle.eevdf_steps.specs.{declared.micro.Micro.Micro, Plan.Plan, Plan.callers, Playing.IsWork, Working.FitsHand}
 use Rattle.eevdf_steps.specs.{Working.HasRoom, MicroState.settled, MicroState.works}
@@ -58,6 +58,7 @@ take_kept plan w p c a t (Some x) works below source empty e =
 
 detach_kept : (plan : Plan) (w : Work) (p : ℕ) (o : Op) → IsWork plan w → p < callers plan → pulls_from (callers plan) o ≡ true → hand w p ≡ None → IsWork plan (detach w p o)
 detach_kept plan w p (op.Sleep task) works below from empty = take_kept plan w p p _ (taking.Sleep task) _ works below below empty refl
+detach_kept plan w p (op.Doze task) works below from empty = take_kept plan w p p _ (taking.Sleep task) _ works below below empty refl
 detach_kept plan w p (op.End task) works below from empty = take_kept plan w p p _ (taking.End task) _ works below below empty refl
 detach_kept plan w p (op.Pull source) works below from empty =
     take_kept plan w p source _ (taking.Pull (task_of (pull_decision w.machine p source))) _ works below (ltb-true source (callers plan) from) empty refl
@@ -66,16 +67,26 @@ detach_kept plan w p _ works below from empty = works
 put_kept : (plan : Plan) (w : Work) (p c : ℕ) (how : Putting) (h : Option Contents) → IsWork plan w → p < callers plan → c < callers plan → hand w p ≡ h
     → IfSome h (halves.HasRoom how (queue_at w.machine c)) → IsWork plan (put_in w p c how h)
 put_kept plan w p c Asleep None works below taker e room = grind (arith, length-set, places-set, hands-set)
+put_kept plan w p c Dozing None works below taker e room = grind (arith, length-set, places-set, hands-set)
 put_kept plan w p c Runnable None works below taker e room = grind (arith, length-set, places-set, hands-set)
 put_kept plan w p c Asleep (Some t) works below taker e room = search (in_kept, asleep-with, held_nowhere)
+put_kept plan w p c Dozing (Some t) works below taker e room = search (in_kept, dozing-with, held_nowhere)
 put_kept plan w p c Runnable (Some t) works below taker e room = search (in_kept, runnable-with, held_nowhere, with_task-put)
 
 unasked : (h : Option Contents) → IfSome h (λ (t : Contents). Unit {0})
 unasked None = tt
 unasked (Some t) = tt
 
+-- a doze puts the task in as one, or as a sleep does
+doze_or_sleep : (P : Putting → Type 0) (here : Bool) → P Dozing → P Asleep → P (cond {A = Putting} here Dozing Asleep)
+doze_or_sleep P true dozes sleeps = dozes
+doze_or_sleep P false dozes sleeps = sleeps
+
 attach_kept : (plan : Plan) (w : Work) (p c : ℕ) (o : Op) → IsWork plan w → p < callers plan → c < callers plan → HasRoom w p o → IsWork plan (attach c w p o)
 attach_kept plan w p c (op.Sleep task) works below home room = put_kept plan w p c Asleep (hand w p) works below home refl (unasked (hand w p))
+attach_kept plan w p c (op.Doze task) works below home room =
+    doze_or_sleep (λ (how : Putting). IsWork plan (put_in w p c how (hand w p))) (c == p) (put_kept plan w p c Dozing (hand w p) works below home refl (unasked (hand w p)))
+    (put_kept plan w p c Asleep (hand w p) works below home refl (unasked (hand w p)))
 attach_kept plan w p c (op.End task) works below home room = put_kept plan w p c Asleep (hand w p) works below home refl (unasked (hand w p))
 attach_kept plan w p c (op.Pull source) works below home room = put_kept plan w p p Runnable (hand w p) works below below refl room
 attach_kept plan w p c _ works below home room = works

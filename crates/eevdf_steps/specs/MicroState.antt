@@ -42,6 +42,7 @@ settled_answer w caller (Some task) = Some (wake_answer w caller task)
 -- the home to which an operation's task goes or its request is posted; the caller's CPU for any other operation
 abbrev pub home_for : Plan → ℕ → Op → ℕ
 home_for plan caller (op.Sleep task) = home plan task
+home_for plan caller (op.Doze task) = home plan task
 home_for plan caller (op.End task) = home plan task
 home_for plan caller (op.Post task) = home plan task
 home_for plan caller _ = caller

@@ -22,7 +22,7 @@ acting = Act ∷ Commit ∷ []
 abbrev pub moving : List Micro
 moving = Detach ∷ Attach ∷ Commit ∷ []
 
--- a task goes to sleep at its home
+-- a task goes to sleep at its home, or dozes off there
 abbrev pub sleeping : ℕ → ℕ → List Micro
 sleeping cpu home = if cpu == home then under_lock cpu moving else under_locks cpu home moving
 
@@ -34,6 +34,7 @@ draining (suc n) sender = Take sender ∷ Settle sender ∷ draining n (sender +
 -- the micro-steps of an operation of a caller
 abbrev pub micros_of : Plan → ℕ → Op → List Micro
 micros_of plan cpu (op.Sleep task) = sleeping cpu (home plan task)
+micros_of plan cpu (op.Doze task) = sleeping cpu (home plan task)
 micros_of plan cpu (op.End task) = sleeping cpu (home plan task)
 micros_of plan cpu (op.Pull source) = under_locks cpu source moving
 micros_of plan cpu op.Drain = under_lock cpu (draining (callers plan) 0)

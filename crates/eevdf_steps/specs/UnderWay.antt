@@ -32,6 +32,7 @@ under_way caller (Some s) = under_way_before caller s.op s.micro
 -- the task that leaves a queue, by the deed's answer and by what the queue has for it
 abbrev pub taken_from_giver : Deed → Answer → Moved → Option Contents
 taken_from_giver (deed.Sleep cpu task) answer moved = moved.contents
+taken_from_giver (deed.Doze cpu task) answer moved = moved.contents
 taken_from_giver (deed.End cpu task) answer moved = moved.contents
 taken_from_giver (deed.Pull cpu source) answer moved = taken answer moved.contents
 taken_from_giver _ answer moved = None

@@ -6,7 +6,7 @@ use Rattle.eevdf_ops.specs.declared.deeds.Op.TheVariants as op
 use Rattle.eevdf_ops.specs.declared.halves.Putting.TheVariants.{Asleep, Runnable}
 use Rattle.eevdf_ops.specs.declared.halves.Taking.TheVariants as taking
 use Rattle.eevdf_ops.specs.{Acts.local_of, LocalActs.local_done, Machine.Machine, Machine.queue_at, OneQueue.one_wake}
-use Rattle.eevdf_ops.specs.{Halves.after_putting, Halves.answer_of_taking, Halves.taken_out, Parts.after_leaving, WholePull.pull_decision, WholePull.task_of}
+use Rattle.eevdf_ops.specs.{Halves.after_putting, Halves.answer_of_taking, Halves.putting_of_doze, Halves.taken_out, Parts.after_leaving, WholePull.pull_decision, WholePull.task_of}
 
 -- the queues, the task in each caller's hand, and the answer that each caller keeps
 pub record Work : Type 0 where
@@ -54,6 +54,7 @@ take_out w caller giver t = detached w caller giver (answer_of_taking t (taken_o
 -- the task of an operation leaves into the caller's hand
 abbrev pub detach : Work → ℕ → Op → Work
 detach w caller (op.Sleep task) = take_out w caller caller (taking.Sleep task)
+detach w caller (op.Doze task) = take_out w caller caller (taking.Sleep task)
 detach w caller (op.End task) = take_out w caller caller (taking.End task)
 detach w caller (op.Pull source) = take_out w caller source (taking.Pull (task_of (pull_decision w.machine caller source)))
 detach w caller _ = w
@@ -74,6 +75,7 @@ put_in w caller taker how held = with_queue (emptied w caller) taker (after_putt
 -- the home of the task is given
 abbrev pub attach : ℕ → Work → ℕ → Op → Work
 attach home w caller (op.Sleep task) = put_in w caller home Asleep (hand w caller)
+attach home w caller (op.Doze task) = put_in w caller home (putting_of_doze caller home) (hand w caller)
 attach home w caller (op.End task) = put_in w caller home Asleep (hand w caller)
 attach home w caller (op.Pull source) = put_in w caller caller Runnable (hand w caller)
 attach home w caller _ = w

@@ -154,7 +154,11 @@ impl Plan {
         ensures { result ≡ slice_get (micros_of self.now cpu op) at }
     {
         match op {
-            Op::Sleep(task) | Op::End(task) => sleep_step(cpu, self.home(task), at),
+            Op::Sleep(task) | Op::Doze(task) | Op::End(task) => sleep_step(
+                cpu,
+                self.home(task),
+                at,
+            ),
             Op::Pull(source) => move_between_step(cpu, source, at),
             Op::Drain => drain_step(self.callers(), cpu, at),
             Op::Post(task) => {

@@ -161,7 +161,7 @@ impl Work {
         ensures { self.new ≡ work.detach self.old cpu op }
     {
         match op {
-            Op::Sleep(task) => self.take_out(cpu, cpu, Taking::Sleep(task)),
+            Op::Sleep(task) | Op::Doze(task) => self.take_out(cpu, cpu, Taking::Sleep(task)),
             Op::End(task) => self.take_out(cpu, cpu, Taking::End(task)),
             Op::Pull(source) => {
                 let decided = decide(self.queue(cpu), self.queue(source));

@@ -73,6 +73,10 @@ fn attach(work: &mut Work, plan: &Plan, cpu: CpuId, op: Op)
 {
     match op {
         Op::Sleep(task) | Op::End(task) => work.put_in(cpu, plan.home(task), Putting::Asleep),
+        Op::Doze(task) => {
+            let home = plan.home(task);
+            work.put_in(cpu, home, Putting::dozing(cpu, home));
+        }
         Op::Pull(_) => work.put_in(cpu, cpu, Putting::Runnable),
         _ => {}
     }

@@ -25,7 +25,7 @@ struct Case {
     orders: usize,
 }
 
-const CASES: [Case; 22] = [
+const CASES: [Case; 24] = [
     // The one step of caller 1 stands anywhere among the 7 of caller 0.
     Case {
         name: "a drain may come before or after another CPU's post",
@@ -91,6 +91,18 @@ const CASES: [Case; 22] = [
         name: "a task is pulled, runs, and falls asleep at its home",
         workload: b"version = 1\nprogram = [[\"pull 1\", \"pick\", \"sleep 2\"], [\"pick\"]]\n[[task]]\nhome = 1\n[[task]]\nhome = 1\n[[task]]\nhome = 1\n",
         orders: 220,
+    },
+    // The same steps as of the sleep.
+    Case {
+        name: "a task is pulled, runs, and dozes, which is a sleep away from its home",
+        workload: b"version = 4\nprogram = [[\"pull 1\", \"pick\", \"doze 2\"], [\"pick\"]]\n[[task]]\nhome = 1\n[[task]]\nhome = 1\n[[task]]\nhome = 1\n",
+        orders: 220,
+    },
+    // Each operation holds the lock of CPU 0 from its first step to its last: the pull comes before, between or after.
+    Case {
+        name: "the running task dozes at its home beside a pull",
+        workload: b"version = 4\nprogram = [[\"pick\", \"doze 0\"], [\"pull 0\"]]\n[[task]]\n[[task]]\n[[task]]\n",
+        orders: 3,
     },
     // 14! / (12! 2!)
     Case {

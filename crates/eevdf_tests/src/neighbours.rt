@@ -71,7 +71,8 @@ impl Pair {
         }
     }
 
-    /// The CPU's tasks sleep, and it pulls the neighbour's second task twice: it falls asleep, and then ends and begins anew.
+    /// The CPU's tasks sleep and doze, and it pulls the neighbour's second task three times: it falls asleep, it dozes, which is a sleep
+    /// away from its home, and then it ends and begins anew.
     fn pulls(&self, rt: &impl Abort, calls: &mut Vec<Told>) {
         let (cpu, neighbour) = (self.cpu, self.neighbour);
         let pull = (
@@ -80,9 +81,12 @@ impl Pair {
             answered(Answer::Pulled(self.third)),
         );
         self.pick_and_sleep(rt, calls, self.own);
-        self.pick_and_sleep(rt, calls, self.second);
+        self.pick_and_doze(rt, calls, self.second);
         push(rt, calls, &[pull]);
         self.pick_and_sleep(rt, calls, self.third);
+        push(rt, calls, &wake(cpu, neighbour, self.third));
+        push(rt, calls, &[pull]);
+        self.pick_and_doze(rt, calls, self.third);
         push(rt, calls, &wake(cpu, neighbour, self.third));
         let end = (cpu, Op::End(self.third), answered(Answer::Ended));
         push(rt, calls, &[pull, end]);
@@ -91,11 +95,18 @@ impl Pair {
         push(rt, calls, &wake(cpu, neighbour, self.third));
     }
 
-    /// A task of the CPU is picked, and falls asleep with the lag 0.
+    /// A task is picked on the CPU, and falls asleep with the lag 0.
     fn pick_and_sleep(&self, rt: &impl Abort, calls: &mut Vec<Told>, task: TaskId) {
         let pick = (self.cpu, Op::Pick, answered(Answer::Picked(task)));
         let sleep = (self.cpu, Op::Sleep(task), answered(Answer::Slept(0)));
         push(rt, calls, &[pick, sleep]);
+    }
+
+    /// A task is picked on the CPU, and dozes off with the lag 0.
+    fn pick_and_doze(&self, rt: &impl Abort, calls: &mut Vec<Told>, task: TaskId) {
+        let pick = (self.cpu, Op::Pick, answered(Answer::Picked(task)));
+        let doze = (self.cpu, Op::Doze(task), answered(Answer::Slept(0)));
+        push(rt, calls, &[pick, doze]);
     }
 
     /// The CPU's tasks wake. One is charged, and the other ends, so that it is alone when its CPU is rebased.

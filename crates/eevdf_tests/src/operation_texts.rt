@@ -22,7 +22,7 @@ pub fn operations_at(rt: &impl Abort, alloc: Global, cpu: u64, lines: &str) -> V
 /// A workload in which a CPU has these operations, and all tasks.
 fn workload_of(rt: &impl Abort, alloc: Global, cpu: u64, lines: &str) -> String {
     let mut text = String::new(alloc);
-    text.push_str("version = 3\nprogram = [")
+    text.push_str("version = 4\nprogram = [")
         .expect(rt, "memory");
     for number in 0..CPUS {
         text.push_str("[").expect(rt, "memory");

@@ -40,4 +40,5 @@ fn have_alike(one: &Queue, other: &Queue, number: u64) -> bool {
     one.entry(task) == other.entry(task)
         && one.asleep(task) == other.asleep(task)
         && one.lag_of(task) == other.lag_of(task)
+        && one.place_of(task) == other.place_of(task)
 }

@@ -2,7 +2,7 @@
 
 use super::Case;
 
-pub const CASES: [Case; 6] = [
+pub const CASES: [Case; 7] = [
     Case {
         name: "each operation of a running task",
         workload: b"version = 2\nprogram = [[]]\n[[task]]\n[[task]]\n",
@@ -30,6 +30,23 @@ pub const CASES: [Case; 6] = [
             (0, "drain", "1 taken, 1 woken"),
         ],
         report: "cpu 0\nload 3072 floor 0\ntask 0 v 0 d 3000000 lag 0\ntask 1 v 0 d 3000000 lag 0\ntask 2 v 0 d 3000000 lag 0\ncpu 1\nload 0 floor 500000\n",
+    },
+    // Task 0 stands 2000000 past the virtual time when it leaves CPU 0, and task 2 is alone on CPU 1.
+    Case {
+        name: "a task that dozes at its home keeps its place, and away from there it sleeps",
+        workload: b"version = 1\nprogram = [[], []]\n[[task]]\n[[task]]\n[[task]]\n",
+        rings: 1,
+        calls: &[
+            (0, "pick", "picked 0"),
+            (0, "tick 3000000", "charged 0 resched"),
+            (0, "doze 0", "slept -2000000"),
+            (1, "pull 0", "pulled 2"),
+            (1, "pick", "picked 2"),
+            (1, "tick 500000", "charged 2"),
+            (1, "doze 2", "slept 0"),
+            (1, "doze 2", "not running"),
+        ],
+        report: "cpu 0\nload 1024 floor 0\ntask 1 v 0 d 3000000 lag 0\nasleep 0 lag 0 place 3000000\nasleep 2 lag 0\ncpu 1\nload 0 floor 500000\n",
     },
     Case {
         name: "a ring that was full takes requests again when it was drained",

@@ -13,7 +13,7 @@ const ONE_ASLEEP: &[u8] = b"version = 1\nprogram = [[], []]\n[[task]]\nasleep = 
 const THREE_ASLEEP: &[u8] =
     b"version = 1\nprogram = [[], []]\n[[task]]\nasleep = true\n[[task]]\nasleep = true\n[[task]]\nasleep = true\n";
 
-pub const CASES: [Case; 12] = [
+pub const CASES: [Case; 13] = [
     Case {
         name: "each answer of a running task is a line",
         workload: b"version = 2\nprogram = [[]]\n[[task]]\n[[task]]\n",
@@ -27,6 +27,24 @@ pub const CASES: [Case; 12] = [
             (0, "pick", SeatFull),
         ],
         report: "cpu 0\npick: picked 0\ntick 3000000: charged 0 resched\nrenice 0 5: reniced\nyield: yielded\nload 1359 floor 1500000\ntask 0 v 6085076 d 24425374 lag -4585076 running\ntask 1 v 0 d 3000000 lag 1500000\nscript = [\n\"0 pick\",\n\"0 tick 3000000\",\n\"0 renice 0 5\",\n\"0 yield\",\n]\n",
+    },
+    // Task 0 stands 2000000 past the virtual time when it leaves CPU 0, and task 2 is alone on CPU 1.
+    Case {
+        name: "a doze at home and one away from there are lines",
+        workload: b"version = 1\nprogram = [[], []]\n[[task]]\n[[task]]\n[[task]]\n",
+        quota: 4,
+        rings: 1,
+        calls: &[
+            (0, "pick", Line),
+            (0, "tick 3000000", Line),
+            (0, "doze 0", Line),
+            (1, "pull 0", Line),
+            (1, "pick", Line),
+            (1, "doze 2", Line),
+            (1, "doze 2", Line),
+            (1, "doze 2", SeatFull),
+        ],
+        report: "cpu 0\npick: picked 0\ntick 3000000: charged 0 resched\ndoze 0: slept -2000000\nload 1024 floor 0\ntask 1 v 0 d 3000000 lag 0\nasleep 0 lag 0 place 3000000\nasleep 2 lag 0\ncpu 1\npull 0: pulled 2\npick: picked 2\ndoze 2: slept 0\ndoze 2: not running\nload 0 floor 0\nscript = [\n\"0 pick\",\n\"0 tick 3000000\",\n\"0 doze 0\",\n\"1 pull 0\",\n\"1 pick\",\n\"1 doze 2\",\n\"1 doze 2\",\n]\n",
     },
     // A drain on two CPUs may need two lines, a pick and a pull need one.
     Case {

@@ -23,7 +23,7 @@ pub struct CallTurns<T: TurnCalls + Drop> {
     pub each: T,
 }
 
-const MOST_CALLS: usize = 12;
+const MOST_CALLS: usize = 13;
 
 impl<T: TurnCalls + Drop> SeatTurn for CallTurns<T> {
     fn turn<N: Names, R: Wait>(

@@ -1,5 +1,6 @@
-//! Each CPU does each kind of operation, beside all others. Two CPUs post to one another, and pull from one another, for which a
-//! thread takes the locks of both: if two threads took them in different orders, they could wait for one another for ever.
+//! Each CPU does each kind of operation, beside all others. Two CPUs post to one another, and pull from one another and let each
+//! other's task doze, for which a thread takes the locks of both: if two threads took them in different orders, they could wait for
+//! one another for ever.
 
 use super::call_turns::{CallTurns, TurnCalls};
 use crate::fixtures::one_task_each;
@@ -10,7 +11,7 @@ use eevdf_ops::{Deed, Op};
 use std::alloc::Global;
 use std::process::Abort;
 
-/// Each operation once in each turn. CPU c pulls from CPU `cpus - 1 - c` and posts to it.
+/// Each operation once in each turn. CPU c pulls from CPU `cpus - 1 - c` and posts to it, and lets its task doze.
 #[derive(Drop)]
 struct EachOperation {
     turns: Vec<Vec<Op>>,
@@ -39,7 +40,7 @@ fn lines_of(rt: &impl Abort, alloc: Global, own: usize, other: usize) -> String 
     .expect(rt, "memory");
     write!(
         lines,
-        "sleep {own}\nset {own} 0 3000000\nend {own}\nbegin {own} 0 1000000\nrebase\n"
+        "sleep {own}\ndoze {other}\nset {own} 0 3000000\nend {own}\nbegin {own} 0 1000000\nrebase\n"
     )
     .expect(rt, "memory");
     lines
@@ -52,7 +53,7 @@ impl TurnCalls for EachOperation {
 }
 
 /// So many lines each turn has besides those of its drain.
-const LINES: usize = 10;
+const LINES: usize = 11;
 
 /// How many requests were taken.
 fn taken(closed: &Closed) -> usize {
@@ -86,7 +87,7 @@ fn have_done_each(rt: &impl Abort, closed: &Closed, cpus: usize, turns: usize) {
 
 #[test]
 fn every_cpu_does_each_operation(rt: HostRuntime) {
-    for (cpus, turns, quota) in [(2, 10_000, 110_002), (64, 10, 174)] {
+    for (cpus, turns, quota) in [(2, 10_000, 120_002), (64, 10, 184)] {
         let setup = one_task_each(&rt, rt.alloc(), cpus);
         let kit = kit_of(&rt, rt.alloc(), &setup, quota, turns);
         let each = EachOperation::of(&rt, rt.alloc(), cpus);
