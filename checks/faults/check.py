@@ -128,7 +128,7 @@ def check_file_names(checks, programs, folder):
         printed = run([eevdf, "solo", file])
         checks.expect(f"{case.name}, in a file", printed, (printed.status, printed.errors) == (0, wanted.encode()))
     named = Path(folder) / "a\x1b[31mb.toml"
-    named.write_bytes(b"version = 4\n")
+    named.write_bytes(b"version = 5\n")
     printed = run([eevdf, "solo", named])
     shown = f"{folder}/a\\u{{1b}}[31mb.toml:1:11: ".encode()
     checks.expect("a name with what a terminal would obey", printed, printed.errors.startswith(shown) and b"\x1b" not in printed.errors)

@@ -11,6 +11,8 @@ IN_SCRIPTS = "operations are tick, pick, yield, sleep, pull, renice, wake"
 IN_PROGRAMS = "operations are tick, pick, yield, sleep, pull, renice, post, drain"
 IN_SCRIPTS_OF_THREE = "operations are tick, pick, yield, sleep, pull, renice, begin, end, set, rebase, wake"
 IN_PROGRAMS_OF_THREE = "operations are tick, pick, yield, sleep, pull, renice, begin, end, set, rebase, post, drain"
+IN_SCRIPTS_OF_FOUR = "operations are tick, pick, yield, sleep, pull, renice, begin, end, set, rebase, doze, wake"
+IN_PROGRAMS_OF_FOUR = "operations are tick, pick, yield, sleep, pull, renice, begin, end, set, rebase, doze, post, drain"
 NEAREST = "the nearest that is known is"
 NO_NUMBER = 'the number of a CPU stands in scripts alone; an operation of a program begins with its word, as "pick"'
 NO_WAKE = '"wake" stands in scripts alone; in programs "post" asks for a wake, and "drain" does it'
@@ -86,6 +88,7 @@ OF_DEEDS = (
     script("an end in version 1", '"end" is known from version 3 on', '"0 «end» 0"', version=1),
     script("a set in version 2", '"set" is known from version 3 on', '"0 «set» 0 5 3000000"'),
     script("a rebase in version 2", '"rebase" is known from version 3 on', '"0 «rebase»"'),
+    script("a doze in version 3", '"doze" is known from version 4 on', '"0 «doze» 0"', version=3),
     script("an unknown operation in version 3", f'unknown operation "nap"; {IN_SCRIPTS_OF_THREE}', '"0 «nap» 1"', version=3),
     script("an unknown operation like one of version 3", f'unknown operation "rebaes"; {NEAREST} rebase', '"0 «rebaes»"', version=3),
     script("a post in a script of version 3",
@@ -101,6 +104,11 @@ OF_DEEDS = (
     script("an end of two tasks", 'nothing is expected any more, and "1" stands here', '"0 end 0 «1»"', version=3),
     script("an end of an unknown task", "task 9 is not in the workload, which has tasks 0 to 1", '"0 end «9»"', version=3),
     script("a rebase by a number", 'nothing is expected any more, and "5" stands here', '"0 rebase «5»"', version=3),
+    script("an unknown operation in version 4", f'unknown operation "nap"; {IN_SCRIPTS_OF_FOUR}', '"0 «nap» 1"', version=4),
+    script("an unknown operation like one of version 4", f'unknown operation "dose"; {NEAREST} doze', '"0 «dose» 0"', version=4),
+    script("a doze without a task", "the number of a task is expected, and the end is none", '"0 doze«»"', version=4),
+    script("a doze of two tasks", 'nothing is expected any more, and "1" stands here', '"0 doze 0 «1»"', version=4),
+    script("a doze of an unknown task", "task 9 is not in the workload, which has tasks 0 to 1", '"0 doze «9»"', version=4),
     script("a number for a deed", 'a deed is a string, as "0 tick 1000000", and this is of type integer', "«7»"),
     script("a deed between other quotes", f'unknown operation "slep"; {NEAREST} sleep', "'0 «slep» 1'"),
     script("a deed with an escape", f'unknown operation "slep"; {NEAREST} sleep', '«"0 sl\\u0065p 1"»'),
@@ -136,6 +144,10 @@ OF_OPERATIONS = (
     operation("a program that ends a task that the workload hasn't", "task 5 is not in the workload, which has tasks 0 to 1",
               '"end «5»"', "unknown task at program 0 at 0", version=3),
     operation("a program that sets a level alone", f"{NO_SLICE} the end is none", '"set 0 5«»"', version=3),
+    operation("a doze of a program in version 2", '"doze" is known from version 4 on', '"«doze» 0"'),
+    operation("an unknown operation of a program in version 4", f'unknown operation "nap"; {IN_PROGRAMS_OF_FOUR}', '"«nap»"', version=4),
+    operation("a program in which a task dozes that the workload hasn't", "task 5 is not in the workload, which has tasks 0 to 1",
+              '"doze «5»"', "unknown task at program 0 at 0", version=4),
     operation("an operation too long to be told", f'unknown operation "{"x" * 40}"..; {IN_PROGRAMS}', '"«' + "x" * 300 + '»"'),
     operation("an operation far to the right", f'unknown operation "nap"; {IN_PROGRAMS}', " " * 500 + '"«nap»"'),
     document("a program that is no list", "bad value at program 1", "the program of a CPU is an array of strings, and this is of type string",
@@ -143,10 +155,11 @@ OF_OPERATIONS = (
 )
 
 OF_KEYS = (
-    document("no version", "missing version", "a workload has a line `version = 1`, `version = 2` or `version = 3`, before the first [[task]]",
+    document("no version", "missing version",
+             "a workload has a line `version = 1`, `version = 2`, `version = 3` or `version = 4`, before the first [[task]]",
              "program = [[]]\n[[task]]\n"),
-    document("an unknown version", "bad value at version", "the version is the integer 1, 2 or 3", "version = «4» # four\n"),
-    document("a version in quotes", "bad value at version", "the version is the integer 1, 2 or 3", 'version = «"1"»\n'),
+    document("an unknown version", "bad value at version", "the version is the integer 1, 2, 3 or 4", "version = «5» # five\n"),
+    document("a version in quotes", "bad value at version", "the version is the integer 1, 2, 3 or 4", 'version = «"1"»\n'),
     document("no task", "missing task", "a workload has a table [[task]] for each task", "version = 1\nprogram = [[]]\n"),
     document("a task that is a table", "bad value at task", "task is an array of tables, written [[task]], and this is of type table",
              "version = 1\nprogram = [[]]\n«[task]»\n"),
@@ -201,8 +214,8 @@ OF_KEYS = (
              "version = 1\nprogram = [[]]\n«order».first = 0\n[[task]]\n"),
     document("tables that are the order", "bad value at order at 0", "a caller is an integer from 0 on",
              "version = 1\nprogram = [[]]\n[[task]]\n[[«order»]]\n[[order]]\n"),
-    document("a version with a dot in it", "bad value at version", "the version is the integer 1, 2 or 3", "«version».major = 1\n"),
-    document("a version that is a table", "bad value at version", "the version is the integer 1, 2 or 3",
+    document("a version with a dot in it", "bad value at version", "the version is the integer 1, 2, 3 or 4", "«version».major = 1\n"),
+    document("a version that is a table", "bad value at version", "the version is the integer 1, 2, 3 or 4",
              "[[task]]\n[«version»]\nmajor = 1\n"),
     document("a task with a dot behind it", "bad value at task", "task is an array of tables, written [[task]], and this is of type table",
              "version = 1\nprogram = [[]]\n«task».home = 0\n"),

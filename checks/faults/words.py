@@ -5,7 +5,7 @@ from marked import Case
 USAGE = {
     "eevdf": "usage: eevdf solo|replay|run [--history] [--strict] [FILE]\n",
     "eevdf_orders": "usage: eevdf_orders [--seed N] [FILE]\n",
-    "eevdf_timeline": "usage: eevdf_timeline [--replay|--run] [--html|--perfetto|--table|--stats [--json]] [--rows cpus|tasks]"
+    "eevdf_timeline": "usage: eevdf_timeline [--replay [--race]|--run] [--html|--perfetto|--table|--stats [--json]] [--rows cpus|tasks]"
                       " [--from NS] [--to NS] [--cpu N,..] [--task N,..] [FILE]\n",
 }
 COMMANDS = "commands are solo, replay, run\n"
@@ -57,7 +57,10 @@ WORDS = (
     words("eevdf_timeline", "--perfetto --table", "--table excludes --perfetto, --stats and --json\n"),
     words("eevdf_timeline", "--rows both", '--rows takes cpus or tasks, and "both" is neither\n'),
     words("eevdf_timeline", "--rows=tasks --table", "rows are of a picture: --rows excludes --perfetto, --table and --stats\n"),
-    words("eevdf_timeline", "--stats --from 1", "figures are of the whole schedule: --stats excludes --from and --to\n"),
+    words("eevdf_timeline", "--race", "--race stands with --replay\n"),
+    words("eevdf_timeline", "--run --race", "--race stands with --replay\n"),
+    words("eevdf_timeline", "--replay --race --html", "--race excludes --html, --perfetto, --table, --stats and --json\n"),
+    words("eevdf_timeline", "--replay --race --cpu 0", "a race is of all CPUs and tasks: --race excludes --rows, --cpu and --task\n"),
     words("eevdf_timeline", "--from 5 --to 3", "the time of --to is after that of --from, which is 0 where it isn't given; each stands once\n"),
     words("eevdf_timeline", "--from x", '--from takes a whole number of nanoseconds below 2^64, and "x" is none\n'),
     words("eevdf_timeline", "--to", "--to takes a value, and none stands behind it\n"),
@@ -68,7 +71,7 @@ WORDS = (
     words("eevdf_timeline", "--cpu=", '--cpu takes numbers from 0 to 63 with commas between them, and the end is none\n'),
     words("eevdf_timeline", "--cpu=64 --run", '--cpu takes numbers from 0 to 63 with commas between them, and "64" is none\n'),
     words("eevdf_timeline", "--from=x", '--from takes a whole number of nanoseconds below 2^64, and "x" is none\n'),
-    words("eevdf_timeline", "--stats --from=1", "figures are of the whole schedule: --stats excludes --from and --to\n"),
+    words("eevdf_timeline", "--json --from=1", "--json stands with --stats\n"),
     words("eevdf_timeline", "a --cpu 0 b", 'one file is read, and "b" is another\n'),
     words("eevdf_timeline", f"{NOT_THERE} --stats", f"{NOT_THERE}: No such file or directory (os error 2)\n"),
     words("eevdf_timeline", "--rerun", 'unknown word "--rerun"; --help names those that are known\n'),

@@ -1,5 +1,5 @@
-"""Workloads of version 3 of great size, whose tasks begin, end and are set, and whose queues are rebased: the longest lists of these words,
-and what is wrong at their last place."""
+"""Workloads of versions 3 and 4 of great size, whose tasks begin, end, are set and doze, and whose queues are rebased: the longest lists of
+these words, and what is wrong at their last place."""
 
 from text import Text, fault, filled, report
 from workloads import OPERATIONS, TASK, at_rest, listed, one_after_the_other, programs, scripted
@@ -74,6 +74,25 @@ def last_operation(operation):
                     + b'"%s"]]\n' % operation + TASK)
 
 
+# Task 0 naps so many times, and is picked once more.
+NAPS = DEEDS // 3
+
+
+def naps():
+    """The longest script of a task that is picked, dozes and wakes."""
+    items = b'"0 pick", "0 doze 0", "0 wake 0 from 0",' * NAPS + b'"0 pick"'
+    return b"version = 4\nprogram = [[]]\nscript = [" + items + b"]" + TASK
+
+
+def after_dozes(cpus):
+    """Each CPU lets task 0 doze, which runs nowhere."""
+    lines = []
+    for cpu in range(cpus):
+        lines += [f"cpu {cpu}", *["doze 0: not running"] * OPERATIONS]
+        lines += ["load 1024 floor 0", "task 0 v 0 d 3000000 lag 0"] if cpu == 0 else ["load 0 floor 0"]
+    return report(*lines)
+
+
 SCRIPTS_OF_THREE = (
     Text("the longest script of begins", sent(b"begin 0 19 100000000", tasks=ASLEEP),
          said("begin 0 19 100000000: begun", DEEDS, "load 0 floor 0", "asleep 0 lag 0")),
@@ -130,4 +149,20 @@ ORDERS_OF_THREE = (
          fault(f"order at {8 * OPERATIONS}: blocked on 0"), ("replay",)),
 )
 
-COMING = (*SCRIPTS_OF_THREE, *PROGRAMS_OF_THREE, *ORDERS_OF_THREE)
+OF_FOUR = (
+    Text("the longest script of dozes", sent(b"doze 0", version=4),
+         said("doze 0: not running", DEEDS, "load 1024 floor 0", "task 0 v 0 d 3000000 lag 0")),
+    Text("the longest script of naps", naps,
+         report("cpu 0", *["pick: picked 0", "doze 0: slept 0", "wake 0 from 0: woken"] * NAPS, "pick: picked 0", "load 1024 floor 0",
+                "task 0 v 0 d 3000000 lag 0 running")),
+    Text("a doze behind the longest script of version 3", sent(b"rebase", DEEDS - 1, last=b"doze 0"),
+         fault(f"bad value at script at {DEEDS - 1}")),
+    Text("a doze of no task behind the longest script", sent(b"rebase", DEEDS - 1, 4, last=b"doze 1"),
+         fault(f"bad value at script at {DEEDS - 1}")),
+    Text("a doze of digits", filled(b"1", HEAD.replace(b"3", b"4") + b'"0 doze ', b'"]' + TASK), fault("bad value at script at 0")),
+    Text("the longest dozes, for run", lambda: programs(b"doze 0", OPERATIONS, 64, 4) + TASK, after_dozes(64), ("run",)),
+    Text("the longest order of dozes on one CPU",
+         lambda: programs(b"doze 0", OPERATIONS, 1, 4) + one_after_the_other(1, 5 * OPERATIONS) + TASK, after_dozes(1), ("replay",)),
+)
+
+COMING = (*SCRIPTS_OF_THREE, *PROGRAMS_OF_THREE, *ORDERS_OF_THREE, *OF_FOUR)

@@ -6,7 +6,7 @@ use Rattle.std.proofs.lemmas.Option.{same_Some, none-some, cond_some, option_and
 use Rattle.eevdf_weight.specs.Limits.{checked_slice, checked_tick, is_slice, is_tick}
 use Rattle.eevdf_queue.specs.Numbers.{checked_number}
 use Rattle.eevdf_ops.specs.{Numbers.cpu_limit, declared.deeds.Op.Op}
-use Rattle.eevdf_ops.specs.declared.deeds.Op.TheVariants.{Tick, Pick, Yield, Sleep, Post, Drain, Pull, Renice, Begin, End, Set, Rebase}
+use Rattle.eevdf_ops.specs.declared.deeds.Op.TheVariants.{Tick, Pick, Yield, Sleep, Doze, Post, Drain, Pull, Renice, Begin, End, Set, Rebase}
 use Rattle.eevdf_workload.specs.{declared.version.Version.Version, Versions.cpu_within, Versions.limits_of}
 use Rattle.eevdf_workload.specs.Words.{words, number, only_word, only_number, only_level, only_slice, level_in, task_in, alone, level_and_slice, task_level_slice, renice_of, operation, operation_by, operation_of}
 use Rattle.eevdf_bench.specs.WordsPrinted.{AreInRange, IsInRange, knows_operation, operation_text}
@@ -193,8 +193,9 @@ text-operation_of version verb ws op h =
     named_verb (codes "begin") verb ws (operation_by (limits_of version) ws) _ _ op (IsPrinted version op) h (λ h. of_version version (codes "begin") ws _ _ op h (λ known. text-three version (codes "begin") (λ all. Begin all.0 all.1 all.2) ws op (λ all. begin_text all.0 all.1 all.2) (λ all. known))) (λ h.
     named_verb (codes "end") verb ws (operation_by (limits_of version) ws) _ _ op (IsPrinted version op) h (λ h. of_version version (codes "end") ws _ _ op h (λ known. text-numbered version (codes "end") End checked_number ws op task_check (λ n. refl) (λ n passes. known))) (λ h.
     named_verb (codes "set") verb ws (operation_by (limits_of version) ws) _ _ op (IsPrinted version op) h (λ h. of_version version (codes "set") ws _ _ op h (λ known. text-three version (codes "set") (λ all. Set all.0 all.1 all.2) ws op (λ all. set_text all.0 all.1 all.2) (λ all. known))) (λ h.
-    named_verb (codes "rebase") verb ws (operation_by (limits_of version) ws) _ None op (IsPrinted version op) h (λ h. of_version version (codes "rebase") ws _ _ op h (λ known. text-alone version (codes "rebase") Rebase ws op refl known)) (λ h.
-    absurd (none-some op h)))))))))))))
+    named_verb (codes "rebase") verb ws (operation_by (limits_of version) ws) _ _ op (IsPrinted version op) h (λ h. of_version version (codes "rebase") ws _ _ op h (λ known. text-alone version (codes "rebase") Rebase ws op refl known)) (λ h.
+    named_verb (codes "doze") verb ws (operation_by (limits_of version) ws) _ None op (IsPrinted version op) h (λ h. of_version version (codes "doze") ws _ _ op h (λ known. text-numbered version (codes "doze") Doze checked_number ws op task_check (λ n. refl) (λ n passes. known))) (λ h.
+    absurd (none-some op h))))))))))))))
 
 text-words : (version : Version) (ws : List (List ℕ)) (op : Op) → operation (limits_of version) ws ≡ Some op → IsPrinted version op ws
 unfolding operation
@@ -226,6 +227,7 @@ operation-read version (End n) h known = rw (known, words-decimal n (omega arith
 operation-read version (Set n nice slice) h known =
     ap (λ t. operation (limits_of version) (words t)) (set_text n nice slice) ∙ rw known (ap (option_map (λ all. Set all.0 all.1 all.2)) (three-read n nice slice h))
 operation-read version Rebase h known = rw known
+operation-read version (Doze n) h known = rw (known, words-decimal n (omega arith), number-decimal n (omega arith), task_passes n h)
 operation-read version _ h known = refl
 
 -- a text is read as an operation whose numbers are in range exactly where it is that operation as it is printed

@@ -2,7 +2,7 @@
 use Rattle.std.specs.Prelude.{◌≡◌, ◌<◌, ℕ, ℤ, nat_lt, Bool, true, ◌&&◌}
 use Rattle.eevdf_weight.specs.Limits.{is_nice_level, is_slice, is_tick}
 use Rattle.eevdf_ops.specs.{Numbers.cpu_limit, declared.deeds.Op.Op, declared.deeds.Deed.Deed, declared.origin.Origin.Origin, Origins.decider, Origins.origin_of}
-use Rattle.eevdf_ops.specs.declared.deeds.Op.TheVariants.{Tick, Sleep, Post, Pull, Renice, Begin, End, Set, Rebase}
+use Rattle.eevdf_ops.specs.declared.deeds.Op.TheVariants.{Tick, Sleep, Doze, Post, Pull, Renice, Begin, End, Set, Rebase}
 use Rattle.eevdf_ops.specs.declared.origin.Origin.TheVariants.{Operation, Request}
 use Rattle.eevdf_workload.specs.{declared.version.Version.Version, Versions.limits_of}
 pub use Rattle.eevdf_ops.specs.Texts.{operation_text, numbered_deed_text}
@@ -15,6 +15,7 @@ knows_operation version (Begin task nice slice) = (limits_of version).begin
 knows_operation version (End task) = (limits_of version).begin
 knows_operation version (Set task nice slice) = (limits_of version).begin
 knows_operation version Rebase = (limits_of version).begin
+knows_operation version (Doze task) = (limits_of version).doze
 knows_operation version other = true
 
 -- whether what a deed comes from is: of a request that its sender is one of the version's CPUs
@@ -34,6 +35,7 @@ AreInRange task nice slice = (task < 1024) × (is_nice_level nice ≡ true) × (
 abbrev pub IsInRange : Op → Type 0
 IsInRange (Tick ns) = is_tick ns ≡ true
 IsInRange (Sleep task) = task < 1024
+IsInRange (Doze task) = task < 1024
 IsInRange (Post task) = task < 1024
 IsInRange (Pull source) = source < cpu_limit
 IsInRange (Renice task nice) = (task < 1024) × (is_nice_level nice ≡ true)

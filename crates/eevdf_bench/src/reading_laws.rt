@@ -7,7 +7,9 @@ ghost use Rattle.eevdf_bench.specs.WordsPrinted.{IsInRange, IsOriginInRange, kno
 
 use eevdf_ops::{Deed, Op, Origin};
 use eevdf_workload::Version;
-pub use eevdf_workload::laws::{version_three_keeps_meaning, version_two_keeps_meaning};
+pub use eevdf_workload::laws::{
+    version_four_keeps_meaning, version_three_keeps_meaning, version_two_keeps_meaning,
+};
 
 /// A text is read in a version as an operation exactly where it is that operation as it is printed and the
 /// version knows the operation.
@@ -35,7 +37,7 @@ fn operation_is_in_range(op: Op)
         Op::Tick(ns) => {
             let _within = ns.get();
         }
-        Op::Sleep(task) | Op::Post(task) | Op::End(task) => {
+        Op::Sleep(task) | Op::Doze(task) | Op::Post(task) | Op::End(task) => {
             let _below = task.get();
         }
         Op::Pull(source) => {

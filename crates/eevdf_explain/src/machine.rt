@@ -16,7 +16,7 @@ impl<'a> Machine<'a> {
     pub(crate) fn of(document: &'a Table) -> Machine<'a> {
         Machine {
             document,
-            version: version_of_document(document).unwrap_or(Version::Three),
+            version: version_of_document(document).unwrap_or(Version::Four),
             cpus: count(document.get("program")),
             tasks: count(document.get("task")),
         }

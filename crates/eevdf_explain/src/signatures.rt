@@ -21,6 +21,8 @@ const TWO: Version = Version::Two;
 
 const THREE: Version = Version::Three;
 
+const FOUR: Version = Version::Four;
+
 const NOTHING: &[Argument] = &[];
 
 const TIME: &[Argument] = &[Argument::Time];
@@ -44,7 +46,7 @@ const SENDER: &[Argument] = &[
 ];
 
 /// All of them, in the order in which they are told.
-pub(crate) const SIGNATURES: [Signature; 13] = [
+pub(crate) const SIGNATURES: [Signature; 14] = [
     Signature("tick", ONE, Stands::InBoth, TIME),
     Signature("pick", ONE, Stands::InBoth, NOTHING),
     Signature("yield", ONE, Stands::InBoth, NOTHING),
@@ -55,6 +57,7 @@ pub(crate) const SIGNATURES: [Signature; 13] = [
     Signature("end", THREE, Stands::InBoth, TASK),
     Signature("set", THREE, Stands::InBoth, STATE),
     Signature("rebase", THREE, Stands::InBoth, NOTHING),
+    Signature("doze", FOUR, Stands::InBoth, TASK),
     Signature("post", ONE, Stands::InPrograms, TASK),
     Signature("drain", ONE, Stands::InPrograms, NOTHING),
     Signature("wake", ONE, Stands::InScripts, SENDER),
@@ -90,6 +93,7 @@ impl Signature {
             Version::One => true,
             Version::Two => version.limits().renice,
             Version::Three => version.limits().begin,
+            Version::Four => version.limits().doze,
         }
     }
 

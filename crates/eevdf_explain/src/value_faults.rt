@@ -68,7 +68,7 @@ fn with_nearest(alloc: Global, reason: WordReason) -> Result<WordReason, AllocEr
 pub(crate) fn missing(key: Key) -> Reason<'static> {
     Reason::Says(match key {
         Key::Version => {
-            "a workload has a line `version = 1`, `version = 2` or `version = 3`, before the first [[task]]"
+            "a workload has a line `version = 1`, `version = 2`, `version = 3` or `version = 4`, before the first [[task]]"
         }
         Key::Tasks => "a workload has a table [[task]] for each task",
         Key::Programs => {
@@ -88,7 +88,7 @@ pub(crate) fn missing(key: Key) -> Reason<'static> {
 fn expected<'a>(machine: Machine, key: Key, value: &'a Value) -> Reason<'a> {
     let version = machine.version;
     match key {
-        Key::Version => Reason::Says("the version is the integer 1, 2 or 3"),
+        Key::Version => Reason::Says("the version is the integer 1, 2, 3 or 4"),
         Key::Tasks => of_type("task is an array of tables, written [[task]]", value),
         Key::Task(_) => of_type("a task is a table", value),
         Key::Home(_) => Reason::NoHome { version },

@@ -1,9 +1,9 @@
 -- The texts of one queue's tasks.
-use Rattle.std.specs.Prelude.{ℕ, ℤ, Bool, true, false, List, [], ◌++◌, codes, decimal}
+use Rattle.std.specs.Prelude.{ℕ, ℤ, Bool, true, false, List, [], ◌++◌, codes, decimal, Option, Some, None}
 use Rattle.std.specs.{Fmt.signed_decimal, List.flat_map}
 use Rattle.std.specs.FinMap as finite
 use Rattle.eevdf_queue.specs.{declared.entry.Entry.Entry, declared.sleeper.Sleeper.Sleeper, State.State, Sums.total_weight, Sums.virtual_time}
-use Rattle.eevdf_queue.specs.{Lag.kept_lag, Candidate.is_running}
+use Rattle.eevdf_queue.specs.{Lag.kept_lag, Candidate.is_running, Doze.place_of}
 use Rattle.eevdf_report.specs.Text.{as_line, task_text}
 
 abbrev pub load_line : ℕ → ℤ → List ℕ
@@ -23,17 +23,22 @@ lag_text lag = codes " lag " ++ signed_decimal lag
 abbrev pub task_line : ℕ → Entry → ℤ → Bool → List ℕ
 task_line task e lag runs = as_line (task_text task ++ times_text e.v e.d ++ lag_text lag ++ running_text runs)
 
+-- the place of a task that dozes; any other has none
+unfoldable pub place_text : Option ℤ → List ℕ
+place_text None = []
+place_text (Some place) = codes " place " ++ signed_decimal place
+
 -- a sleeping task
-abbrev pub asleep_line : ℕ → ℤ → List ℕ
-asleep_line task lag = as_line (codes "asleep " ++ decimal task ++ lag_text lag)
+abbrev pub asleep_line : ℕ → ℤ → Option ℤ → List ℕ
+asleep_line task lag place = as_line (codes "asleep " ++ decimal task ++ lag_text lag ++ place_text place)
 
 -- one runnable task, with the lag that it would keep
 abbrev pub runnable_line : State → ℕ × Entry → List ℕ
 runnable_line q a = task_line a.0 a.1 (kept_lag q a.1) (is_running q.running a.0)
 
--- one sleeping task, with the lag that it keeps
-abbrev pub sleeper_line : ℕ × Sleeper → List ℕ
-sleeper_line a = asleep_line a.0 a.1.lag
+-- one sleeping task, with the lag that it keeps, and its place in the virtual times of now where it dozes
+abbrev pub sleeper_line : State → ℕ × Sleeper → List ℕ
+sleeper_line q a = asleep_line a.0 a.1.lag (place_of q a.0)
 
 -- the runnable tasks in ascending number
 abbrev pub task_lines : State → List ℕ
@@ -41,7 +46,7 @@ task_lines q = flat_map (runnable_line q) (finite.entries q.runnable)
 
 -- the sleeping tasks in ascending number
 abbrev pub asleep_lines : State → List ℕ
-asleep_lines q = flat_map sleeper_line (finite.entries q.asleep)
+asleep_lines q = flat_map (sleeper_line q) (finite.entries q.asleep)
 
 -- the load, the virtual time and the tasks
 abbrev pub queue_text : State → List ℕ

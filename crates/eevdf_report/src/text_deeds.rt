@@ -18,6 +18,7 @@ fn prepend_deed(text: &mut BlockText, deed: Deed)
         Deed::Pick { .. } => text.prepend(b"pick"),
         Deed::Yield { .. } => text.prepend(b"yield"),
         Deed::Sleep { task, .. } => prepend_with_number(text, b"sleep ", task.get()),
+        Deed::Doze { task, .. } => prepend_with_number(text, b"doze ", task.get()),
         Deed::Wake { task, sender, .. } => {
             prepend_with_number(text, b" from ", sender.get());
             prepend_with_number(text, b"wake ", task.get());

@@ -20,6 +20,13 @@ pub(crate) fn push_signed(text: &mut Vec<u8>, signed: i64) -> Result<(), AllocEr
     text.extend_from_slice(Buffer::new().format(signed).as_bytes())
 }
 
+/// The same of a number of up to 128 bits.
+pub(crate) fn push_wide(text: &mut Vec<u8>, signed: i128) -> Result<(), AllocError>
+    ensures { OnOk result (text.new.items ≡ text.old.items ++ signed_decimal signed) }
+{
+    text.extend_from_slice(Buffer::new().format(signed).as_bytes())
+}
+
 /// Writes a task's number with its noun. When out of memory the text is as it was.
 #[tactic(auto, unfolding(crate::specs::Text::task_text))]
 pub(crate) fn push_task(text: &mut Vec<u8>, task: u64) -> Result<(), AllocError>

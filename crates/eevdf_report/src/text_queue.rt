@@ -28,7 +28,7 @@ fn push_asleep_lines(text: &mut Vec<u8>, queue: &Queue) -> Result<(), AllocError
     ensures { OnOk result (text.new.items ≡ text.old.items ++ asleep_lines queue.now.state) }
 {
     for (task, lag) in queue.sleeping_tasks() {
-        push_asleep_line(text, task, lag)?;
+        push_asleep_line(text, task, lag, queue.place_of(task))?;
     }
     Ok(())
 }

@@ -1,7 +1,7 @@
 ghost use Rattle.std.specs.Prelude.{◌≡◌, ◌++◌, OnOk};
-ghost use Rattle.eevdf_report.specs.TextQueue.{load_line, running_text, times_text, lag_text, task_line, asleep_line};
+ghost use Rattle.eevdf_report.specs.TextQueue.{load_line, running_text, times_text, lag_text, task_line, asleep_line, place_text};
 
-use crate::text_numbers::{push_number, push_signed, push_task};
+use crate::text_numbers::{push_number, push_signed, push_task, push_wide};
 use eevdf_queue::{Entry, TaskId};
 use std::alloc::AllocError;
 
@@ -61,12 +61,32 @@ pub(crate) fn push_task_line(
     text.extend_from_slice(b"\n")
 }
 
+/// Writes the place of a task that dozes, and nothing of any other.
+#[tactic(auto, unfolding(crate::specs::TextQueue::place_text))]
+fn push_place(text: &mut Vec<u8>, place: Option<i128>) -> Result<(), AllocError>
+    ensures { OnOk result (text.new.items ≡ text.old.items ++ place_text place) }
+{
+    match place {
+        None => Ok(()),
+        Some(place) => {
+            text.extend_from_slice(b" place ")?;
+            push_wide(text, place)
+        }
+    }
+}
+
 /// Writes a sleeping task.
-pub(crate) fn push_asleep_line(text: &mut Vec<u8>, task: TaskId, lag: i64) -> Result<(), AllocError>
-    ensures { OnOk result (text.new.items ≡ text.old.items ++ asleep_line task lag) }
+pub(crate) fn push_asleep_line(
+    text: &mut Vec<u8>,
+    task: TaskId,
+    lag: i64,
+    place: Option<i128>,
+) -> Result<(), AllocError>
+    ensures { OnOk result (text.new.items ≡ text.old.items ++ asleep_line task lag place) }
 {
     text.extend_from_slice(b"asleep ")?;
     push_number(text, task.get())?;
     push_lag(text, lag)?;
+    push_place(text, place)?;
     text.extend_from_slice(b"\n")
 }

@@ -13,7 +13,7 @@ use Rattle.eevdf_ops.specs.declared.deeds.{Deed.Deed, Op.Op}
 use Rattle.eevdf_workload.specs.{declared.version.Limits.Limits, declared.version.Version.Version, declared.load_fault.LoadFault.LoadFault, Versions.limits_of}
 use Rattle.eevdf_workload.specs.declared.load_fault.Key.{Key}
 use Rattle.eevdf_workload.specs.declared.load_fault.Key.TheVariants as keys
-use Rattle.eevdf_workload.specs.declared.version.Version.TheVariants.{One, Two, Three}
+use Rattle.eevdf_workload.specs.declared.version.Version.TheVariants.{One, Two, Three, Four}
 use Rattle.eevdf_workload.specs.MeaningSteps.{◌>>=◌, if_present, required, Reads}
 use Rattle.eevdf_workload.specs.Meaning.{order, order_of, programs, programs_of, script, script_of, tasks, version, version_of, workload_in, workload_of, Workload}
 use Rattle.eevdf_workload.specs.Fronts.{programs_in, version_value, described, BeginsWith, HasBesides, HasNone, Holds, IsReadAs}
@@ -24,6 +24,7 @@ pub version_read : (v : Version) → version_of (version_value v) ≡ Ok v
 version_read One = refl
 version_read Two = refl
 version_read Three = refl
+version_read Four = refl
 
 -- ---- a document and what stands in front of it
 

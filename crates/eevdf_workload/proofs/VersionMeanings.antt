@@ -2,7 +2,7 @@
 use Rattle.std.proofs.Common.{◌≡◌, refl, Ok, sym, ◌∙◌, arith}
 use Rattle.toml.specs.Data.{Members}
 use Rattle.eevdf_workload.specs.{declared.version.Limits.Limits, declared.version.Version.Version}
-use Rattle.eevdf_workload.specs.declared.version.Version.TheVariants.{One, Two, Three}
+use Rattle.eevdf_workload.specs.declared.version.Version.TheVariants.{One, Two, Three, Four}
 use Rattle.eevdf_workload.specs.{Versions.limits_of}
 use Rattle.eevdf_workload.specs.Meaning as meant
 use Rattle.eevdf_workload.specs.MeaningLaws as law
@@ -25,8 +25,12 @@ kept_by_wider one other wider first second w differ means =
 
 pub version_two_keeps_meaning : law.KeepsMeaning One Two
 version_two_keeps_meaning =
-    kept_by_wider One Two (record { cpus = omega arith; deeds = omega arith; renice = λ known. refl; begin = λ known. known })
+    kept_by_wider One Two (record { cpus = omega arith; deeds = omega arith; renice = λ known. refl; begin = λ known. known; doze = λ known. known })
 
 pub version_three_keeps_meaning : law.KeepsMeaning Two Three
 version_three_keeps_meaning =
-    kept_by_wider Two Three (record { cpus = omega arith; deeds = omega arith; renice = λ known. refl; begin = λ known. refl })
+    kept_by_wider Two Three (record { cpus = omega arith; deeds = omega arith; renice = λ known. refl; begin = λ known. refl; doze = λ known. known })
+
+pub version_four_keeps_meaning : law.KeepsMeaning Three Four
+version_four_keeps_meaning =
+    kept_by_wider Three Four (record { cpus = omega arith; deeds = omega arith; renice = λ known. refl; begin = λ known. refl; doze = λ known. refl })

@@ -23,6 +23,7 @@ pub record AreWider (narrow wide : Limits) : Type 0 where
   pub deeds : narrow.deeds ≤ wide.deeds
   pub renice : narrow.renice ≡ true → wide.renice ≡ true
   pub begin : narrow.begin ≡ true → wide.begin ≡ true
+  pub doze : narrow.doze ≡ true → wide.doze ≡ true
 
 below_too : (n a b : ℕ) → a ≤ b → ltb n a ≡ true → ltb n b ≡ true
 below_too n a b wider h = grind (arith, nat_tests)
@@ -67,6 +68,7 @@ module _ (narrow wide : Limits) (wider : AreWider narrow wide) where
   operation_by_kept ws verb.End = known_kept narrow.begin wide.begin (option_map op.End (only_task ws)) wider.begin
   operation_by_kept ws verb.Set = known_kept narrow.begin wide.begin (set_of ws) wider.begin
   operation_by_kept ws verb.Rebase = known_kept narrow.begin wide.begin (alone op.Rebase ws) wider.begin
+  operation_by_kept ws verb.Doze = known_kept narrow.doze wide.doze (option_map op.Doze (only_task ws)) wider.doze
   operation_by_kept ws _ = λ o h. h
 
   operation_of_kept : (verb : List ℕ) (ws : List (List ℕ)) → KeepsSome Op (operation_of narrow verb ws) (operation_of wide verb ws)

@@ -6,7 +6,7 @@ use Rattle.toml.specs.Parse.{parse_document}
 use Rattle.eevdf_ops.specs.declared.deeds.{Deed.Deed, Op.Op}
 use Rattle.eevdf_workload.specs.declared.load_fault.LoadFault.{LoadFault}
 use Rattle.eevdf_workload.specs.declared.version.{Version.Version, Limits.Limits}
-use Rattle.eevdf_workload.specs.declared.version.Version.TheVariants.{One, Two, Three}
+use Rattle.eevdf_workload.specs.declared.version.Version.TheVariants.{One, Two, Three, Four}
 use Rattle.eevdf_workload.specs.declared.reading.front.Front.{Front}
 use Rattle.eevdf_workload.specs.declared.reading.front.Member as kind
 use Rattle.eevdf_workload.specs.MeaningSteps.{◌>>=◌}
@@ -28,6 +28,7 @@ abbrev pub version_value : Version → Data
 version_value One = integer (pos 1)
 version_value Two = integer (pos 2)
 version_value Three = integer (pos 3)
+version_value Four = integer (pos 4)
 
 -- the operations of programs
 abbrev pub programs_in : Vec (Vec Op Global) Global → List (List Op)

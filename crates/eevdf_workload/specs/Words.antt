@@ -132,6 +132,7 @@ verb_of word =
     else if bytes_eq word (codes "end") then Some verb.End
     else if bytes_eq word (codes "set") then Some verb.Set
     else if bytes_eq word (codes "rebase") then Some verb.Rebase
+    else if bytes_eq word (codes "doze") then Some verb.Doze
     else None
 
 -- the operation of a verb, with these words as its arguments
@@ -148,6 +149,7 @@ operation_by limits arguments verb.Begin = if limits.begin then begin_of argumen
 operation_by limits arguments verb.End = if limits.begin then option_map op.End (only_task arguments) else None
 operation_by limits arguments verb.Set = if limits.begin then set_of arguments else None
 operation_by limits arguments verb.Rebase = if limits.begin then alone op.Rebase arguments else None
+operation_by limits arguments verb.Doze = if limits.doze then option_map op.Doze (only_task arguments) else None
 
 -- the operation that the first word names, with the other words as its arguments
 abbrev pub operation_of : Limits → List ℕ → List (List ℕ) → Option Op

@@ -12,3 +12,8 @@ pub fn version_two_keeps_meaning()
 pub fn version_three_keeps_meaning()
     ensures { KeepsMeaning Version.Two Version.Three }
 {}
+
+/// A document of version 3 that describes a workload describes the same workload in version 4.
+pub fn version_four_keeps_meaning()
+    ensures { KeepsMeaning Version.Three Version.Four }
+{}

@@ -11,6 +11,7 @@ pub enum Version {
     One,
     Two,
     Three,
+    Four,
 }
 
 /// The version's number, as a workload gives it.
@@ -22,6 +23,7 @@ impl fmt::Display for Version {
             Version::One => "1",
             Version::Two => "2",
             Version::Three => "3",
+            Version::Four => "4",
         })
     }
 }
@@ -37,6 +39,8 @@ pub struct Limits {
     pub renice: bool,
     /// Whether the word `begin` is known, and with it `end`, `set` and `rebase`.
     pub begin: bool,
+    /// Whether the word `doze` is known.
+    pub doze: bool,
 }
 
 impl Version {
@@ -50,18 +54,28 @@ impl Version {
                 deeds: Workload::MOST_DEEDS_IN_VERSION_ONE,
                 renice: false,
                 begin: false,
+                doze: false,
             },
             Version::Two => Limits {
                 cpus: CpuId::COUNT as u64,
                 deeds: Workload::MOST_DEEDS,
                 renice: true,
                 begin: false,
+                doze: false,
             },
             Version::Three => Limits {
                 cpus: CpuId::COUNT as u64,
                 deeds: Workload::MOST_DEEDS,
                 renice: true,
                 begin: true,
+                doze: false,
+            },
+            Version::Four => Limits {
+                cpus: CpuId::COUNT as u64,
+                deeds: Workload::MOST_DEEDS,
+                renice: true,
+                begin: true,
+                doze: true,
             },
         }
     }

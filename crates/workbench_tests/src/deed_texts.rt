@@ -1,7 +1,7 @@
 //! Which texts are deeds in which version, and of which meaning.
 
 use crate::fixtures::{cpu, nice, ns, slice, task, wake};
-use crate::known_texts::{ALL, LATER, Meaning, THREE, check};
+use crate::known_texts::{ALL, FOUR, LAST_TWO, LATER, Meaning, check};
 use crate::whole_machines::with_deed;
 use eevdf_ops::Deed;
 use eevdf_workload::{Key, LoadFault, Version, read_workload};
@@ -98,7 +98,20 @@ fn version_three_knows_more_deeds(rt: HostRuntime) {
         ("63 set 1023 -5 100000", set),
         ("63 rebase", Deed::Rebase { cpu: other }),
     ] {
-        check(&rt, rt.alloc(), THREE, text, &meant);
+        check(&rt, rt.alloc(), LAST_TWO, text, &meant);
+    }
+}
+
+/// A task dozes on any CPU, as it sleeps.
+#[test]
+fn version_four_knows_a_doze(rt: HostRuntime) {
+    let task = task(&rt, 1023);
+    let (home, other) = (cpu(&rt, 0), cpu(&rt, 63));
+    for (text, meant) in [
+        ("0 doze 1023", Deed::Doze { cpu: home, task }),
+        ("63 doze 1023", Deed::Doze { cpu: other, task }),
+    ] {
+        check(&rt, rt.alloc(), FOUR, text, &meant);
     }
 }
 

@@ -4,12 +4,15 @@ use eevdf_workload::Version;
 use std::alloc::Global;
 use std::process::Abort;
 
-pub const ALL: &[Version] = &[Version::One, Version::Two, Version::Three];
+pub const ALL: &[Version] = &[Version::One, Version::Two, Version::Three, Version::Four];
 
 /// The versions after the first.
-pub const LATER: &[Version] = &[Version::Two, Version::Three];
+pub const LATER: &[Version] = &[Version::Two, Version::Three, Version::Four];
 
-pub const THREE: &[Version] = &[Version::Three];
+/// Those after the second.
+pub const LAST_TWO: &[Version] = &[Version::Three, Version::Four];
+
+pub const FOUR: &[Version] = &[Version::Four];
 
 /// A deed or an operation, as what a text of a workload means.
 pub trait Meaning: Copy + PartialEq {
@@ -19,13 +22,13 @@ pub trait Meaning: Copy + PartialEq {
 
 /// Asks that a text means this in the versions that know it, and that the workload is refused for it in the others.
 pub fn check<M: Meaning>(rt: &impl Abort, alloc: Global, known: &[Version], text: &str, meant: &M) {
-    for version in [Version::One, Version::Two, Version::Three] {
-        let wanted = if known.contains(&version) {
+    for version in ALL {
+        let wanted = if known.contains(version) {
             Some(meant)
         } else {
             None
         };
-        let read = M::read(rt, alloc, version, text);
+        let read = M::read(rt, alloc, *version, text);
         assert!(rt; read.as_ref() == wanted, "{text} in version {version}");
     }
 }

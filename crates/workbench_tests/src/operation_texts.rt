@@ -1,7 +1,7 @@
 //! Which texts are operations in which version, and of which meaning.
 
 use crate::fixtures::{cpu, nice, ns, slice, task};
-use crate::known_texts::{ALL, LATER, Meaning, THREE, check};
+use crate::known_texts::{ALL, FOUR, LAST_TWO, LATER, Meaning, check};
 use crate::whole_machines::with_operation;
 use eevdf_ops::{Op, Setup};
 use eevdf_workload::{Key, LoadFault, Version, read_workload};
@@ -90,7 +90,35 @@ fn version_three_knows_more_operations(rt: HostRuntime) {
         ("set 1023 -20 100000000", Op::Set(last, heaviest, longest)),
         ("rebase", Op::Rebase),
     ] {
-        check(&rt, rt.alloc(), THREE, text, &meant);
+        check(&rt, rt.alloc(), LAST_TWO, text, &meant);
+    }
+}
+
+#[test]
+fn version_four_knows_a_doze(rt: HostRuntime) {
+    for (text, meant) in [
+        ("doze 0", Op::Doze(task(&rt, 0))),
+        ("doze 1023", Op::Doze(task(&rt, 1023))),
+    ] {
+        check(&rt, rt.alloc(), FOUR, text, &meant);
+    }
+}
+
+#[test]
+fn version_four_refuses_these_texts(rt: HostRuntime) {
+    for text in [
+        "doze",
+        "doze ",
+        "doze 1024",
+        "doze 00",
+        "doze -1",
+        "doze 0 0",
+        "doze  0",
+        "Doze 0",
+        "dozes 0",
+    ] {
+        let read = Op::read(&rt, rt.alloc(), Version::Four, text);
+        assert!(rt; read.is_none(), "{text}");
     }
 }
 

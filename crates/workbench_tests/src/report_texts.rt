@@ -2,8 +2,9 @@
 
 use crate::fixtures::{cpu, nice, ns, slice, task};
 use eevdf_ops::{Answer, CpuId, Deed, Line, Outcome, Solo};
-use eevdf_queue::{Queue, TaskId};
+use eevdf_queue::{Parcel, Queue, TaskId};
 use eevdf_report::report;
+use eevdf_weight::Nice;
 use eevdf_workload::read_workload;
 use std::alloc::Global;
 use std::process::Abort;
@@ -39,6 +40,8 @@ pick: picked 1023
 yield: yielded
 sleep 1023: slept -200000
 sleep 1023: not running
+doze 1023: slept 200000
+doze 1023: not running
 wake 1023 from 2: woken
 wake 1023 from 2: awake
 pull 2: pulled 1023
@@ -65,6 +68,8 @@ script = [
 \"11 yield\",
 \"11 sleep 1023\",
 \"11 sleep 1023\",
+\"11 doze 1023\",
+\"11 doze 1023\",
 \"11 wake 1023 from 2\",
 \"11 wake 1023 from 2\",
 \"11 pull 2\",
@@ -116,7 +121,7 @@ fn push_turn_lines(rt: &impl Abort, lines: &mut Vec<Line>, cpu: CpuId, task: Tas
     push_lines(rt, lines, &Deed::Yield { cpu }, &[Answer::Yielded]);
 }
 
-/// Adds those of the deeds by which a task sleeps, wakes, is pulled and gets another level.
+/// Adds those of the deeds by which a task sleeps, dozes, wakes, is pulled and gets another level.
 fn push_moving_lines(
     rt: &impl Abort,
     lines: &mut Vec<Line>,
@@ -127,6 +132,9 @@ fn push_moving_lines(
     let sleep = Deed::Sleep { cpu, task };
     let slept = Answer::Slept(-200_000);
     push_lines(rt, lines, &sleep, &[slept, Answer::NotRunning]);
+    let doze = Deed::Doze { cpu, task };
+    let dozed = Answer::Slept(200_000);
+    push_lines(rt, lines, &doze, &[dozed, Answer::NotRunning]);
     let wake = Deed::Wake {
         cpu,
         task,
@@ -260,6 +268,40 @@ fn outcome_with_requests(rt: &impl Abort, alloc: Global) -> Outcome {
     outcome_of(rt, lines, queues, left)
 }
 
+/// Makes a task that isn't in a queue runnable there at this virtual runtime.
+fn admit(rt: &impl Abort, alloc: Global, queue: &mut Queue, task: TaskId, start: i64) {
+    assert!(rt; !queue.contains(task));
+    let slice = slice(rt, 3_000_000);
+    let parcel = Parcel::make(alloc, task, Nice::default(), slice, start).expect(rt, "memory");
+    match queue.admit(parcel) {
+        Ok(()) => {}
+        Err(refused) => {
+            refused.retire();
+            panic!(rt; "out of range");
+        }
+    }
+}
+
+/// A queue that task 0 left at 0 to doze, and whose virtual times were lowered by 2^59 twenty times since.
+fn lowered_past_a_doze(rt: &impl Abort, alloc: Global) -> Queue {
+    let (dozing, other) = (task(rt, 0), task(rt, 1));
+    let mut queue = Queue::open();
+    admit(rt, alloc, &mut queue, dozing, 0);
+    assert!(rt; queue.pick() == Some(dozing));
+    assert!(rt; queue.doze(dozing) == Some(0));
+    for _time in 0..20 {
+        admit(rt, alloc, &mut queue, other, 1 << 59);
+        assert!(rt; queue.rebase() == 1 << 59);
+        let left = queue.detach_runnable(other).expect(rt, "not runnable");
+        left.retire();
+    }
+    queue
+}
+
+/// 20 times 2^59 are more than 64 bits with a sign hold.
+const REPORT_OF_A_FAR_PLACE: &str =
+    "cpu 0\nload 0 floor 0\nasleep 0 lag 0 place -11529215046068469760\nscript = [\n]\n";
+
 /// Asks that this is the report of an outcome, with its history.
 fn is_reported(rt: &impl Abort, alloc: Global, outcome: &Outcome, text: &str) {
     let printed = report(alloc, outcome, true).expect(rt, "memory");
@@ -276,4 +318,16 @@ fn every_kind_of_line_is_printed(rt: HostRuntime) {
 fn requests_are_left_on_two_cpus(rt: HostRuntime) {
     let outcome = outcome_with_requests(&rt, rt.alloc());
     is_reported(&rt, rt.alloc(), &outcome, REPORT_OF_REQUESTS)
+}
+
+#[test]
+fn a_place_of_more_than_64_bits_is_printed(rt: HostRuntime) {
+    let alloc = rt.alloc();
+    let mut queues = Vec::new(alloc);
+    queues
+        .push(lowered_past_a_doze(&rt, alloc))
+        .expect(&rt, "memory");
+    let left = requests_of(&rt, alloc, &[&[]]);
+    let outcome = outcome_of(&rt, Vec::new(alloc), queues, left);
+    is_reported(&rt, alloc, &outcome, REPORT_OF_A_FAR_PLACE)
 }

@@ -31,6 +31,7 @@ fn workload(
         Version::One => (1, 16),
         Version::Two => (2, 64),
         Version::Three => (3, 64),
+        Version::Four => (4, 64),
     };
     let mut text = format!(in alloc; "version = {number}\nprogram = [{program}").expect(
         rt, "memory",

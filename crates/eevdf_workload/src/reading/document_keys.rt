@@ -24,6 +24,7 @@ fn version_of(value: &Value) -> Result<Version, LoadFault>
         Some(1) => Ok(Version::One),
         Some(2) => Ok(Version::Two),
         Some(3) => Ok(Version::Three),
+        Some(4) => Ok(Version::Four),
         _ => Err(LoadFault::BadValue { key: Key::Version }),
     }
 }

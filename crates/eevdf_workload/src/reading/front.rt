@@ -233,6 +233,7 @@ fn version_at(alloc: Global, text: &str) -> Result<Option<(Version, &str)>, Load
         Some((1, after)) => Ok(Some((Version::One, after))),
         Some((2, after)) => Ok(Some((Version::Two, after))),
         Some((3, after)) => Ok(Some((Version::Three, after))),
+        Some((4, after)) => Ok(Some((Version::Four, after))),
         _ => Ok(None),
     }
 }

@@ -38,7 +38,8 @@ pub(crate) fn operation_of(limits: Limits, verb: &[u8], arguments: Words) -> Opt
         Verb::End if limits.begin => Some(Op::End(only_task(arguments)?)),
         Verb::Set if limits.begin => set(arguments),
         Verb::Rebase if limits.begin => alone(Op::Rebase, arguments),
-        Verb::Renice | Verb::Begin | Verb::End | Verb::Set | Verb::Rebase => None,
+        Verb::Doze if limits.doze => Some(Op::Doze(only_task(arguments)?)),
+        Verb::Renice | Verb::Begin | Verb::End | Verb::Set | Verb::Rebase | Verb::Doze => None,
     }
 }
 

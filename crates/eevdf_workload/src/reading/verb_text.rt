@@ -16,6 +16,7 @@ pub(crate) enum Verb {
     End,
     Set,
     Rebase,
+    Doze,
 }
 
 impl Verb {
@@ -36,6 +37,7 @@ impl Verb {
             b"end" => Some(Verb::End),
             b"set" => Some(Verb::Set),
             b"rebase" => Some(Verb::Rebase),
+            b"doze" => Some(Verb::Doze),
             _ => None,
         }
     }

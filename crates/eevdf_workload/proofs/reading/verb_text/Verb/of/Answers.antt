@@ -43,3 +43,6 @@ returns-in-set c = as_read c.args.word.now (codes "set") (omega arith) (search r
 
 pub returns-in-rebase : goal.returns-in-rebase
 returns-in-rebase c = as_read c.args.word.now (codes "rebase") (omega arith) (search rules)
+
+pub returns-in-doze : goal.returns-in-doze
+returns-in-doze c = as_read c.args.word.now (codes "doze") (omega arith) (search rules)
