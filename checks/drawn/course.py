@@ -6,11 +6,17 @@ from plain.machine import Setup, Task, queues_at_start, whole
 from plain.numbers import charge_of
 
 # How often each deed is drawn.
-SHARES = {"tick": 8, "pick": 5, "wake": 5, "sleep": 4, "end": 1, "yield": 1, "renice": 1, "set": 1, "begin": 1, "rebase": 1}
+SHARES = {"tick": 8, "pick": 5, "wake": 5, "sleep": 3, "doze": 3, "end": 1, "yield": 1, "renice": 1, "set": 1, "begin": 1, "rebase": 1}
 
 
 def text_of(deed):
     return f"wake {deed[1]} from {deed[2]}" if deed[0] == "wake" else " ".join(map(str, deed))
+
+
+def placement(queue, task):
+    """Where a wake would put a task if it had no place; None where it doesn't sleep here."""
+    sleeper = queue.asleep.get(task)
+    return sleeper and queue.place_for(sleeper.nice, sleeper.length, sleeper.lag).v
 
 
 class Course:
@@ -41,7 +47,7 @@ class Course:
         chosen = dice.randrange(len(self.setup.tasks))
         if name == "wake" and queue.asleep:
             chosen = dice.choice(sorted(queue.asleep))
-        if name == "sleep" and queue.running is not None:
+        if name in ("sleep", "doze") and queue.running is not None:
             chosen = queue.running
         if name == "wake":
             return name, chosen, 0
@@ -60,6 +66,7 @@ class Course:
         ran = queue.running
         others = [entry for task, entry in queue.runnable.items() if deed[1:2] != (task,)]
         had = queue.runnable.get(deed[1]) or queue.asleep.get(deed[1]) if len(deed) > 1 else None
+        placed = placement(queue, deed[1]) if deed[0] == "wake" else None
         answer = whole(self.setup, self.queues, 0, deed)
         word = answer.split()[0]
         if word == "picked":
@@ -68,18 +75,21 @@ class Course:
             self.left -= deed[1]
         elif word == "yielded" or word == "rebased" and answer != "rebased 0":
             self.left = None
-        elif word in ("woken", "reniced") or word == "set" and deed[1] in queue.runnable:
+        elif word == "woken":
+            self.join(others, deed[1], had.length, ran, queue.runnable[deed[1]].v - placed)
+        elif word == "reniced" or word == "set" and deed[1] in queue.runnable:
             self.join(others, deed[1], had.length, ran)
         self.script.append(text_of(deed))
 
-    def join(self, others, task, length, ran):
+    def join(self, others, task, length, ran, past=0):
+        """A task has joined, so far past its placement."""
         if not others:
             self.begin_anew()
             return
         whole_weight, weight = sum(entry.weight() for entry in others), self.queues[0].runnable[task].weight()
         far = charge_of(2 * length, weight) * (whole_weight + weight)
         reach = ((len(others) - 1) * 1024 * self.longest + self.late + far) // whole_weight + 1
-        self.late += max(0, weight * reach - 1024 * self.longest)
+        self.late += max(0, weight * (reach + past) - 1024 * self.longest)
         self.joined.add(task)
         if task == ran:
             self.left = None

@@ -56,7 +56,8 @@ class Comparison:
 
 
 def workload_of(tasks, start, script):
-    rows = ["version = 3", "program = [[]]", f"script = [{', '.join(f'{chr(34)}0 {deed}{chr(34)}' for deed in script)}]"]
+    version = 4 if any(deed.startswith("doze") for deed in script) else 3
+    rows = [f"version = {version}", "program = [[]]", f"script = [{', '.join(f'{chr(34)}0 {deed}{chr(34)}' for deed in script)}]"]
     for nice, length in tasks:
         rows += ["[[task]]", f"nice = {nice}", f"slice = {length}", f"start = {start}"]
     return "\n".join(rows) + "\n"

@@ -17,12 +17,20 @@ class DozingQueue(Queue):
             return self.runnable[task].v + self.shift
         return self.places.get(task)
 
+    def place_now(self, task):
+        """The place of a task that dozes, in the virtual times of now, or None."""
+        return self.places[task] - self.shift if task in self.places else None
+
     def doze(self):
-        """The running task falls asleep. It keeps its place, and of its lag what it is owed."""
-        task = self.running
-        carried = self.leave(task)
-        self.put_asleep(task, carried.nice, carried.length, max(0, carried.lag))
-        self.places[task] = carried.v + self.shift
+        """The running task falls asleep. It keeps its place, and of its lag what it is owed. The lag with which it leaves."""
+        carried = self.leave(self.running)
+        self.put_dozing(carried)
+        return carried.lag
+
+    def put_dozing(self, carried):
+        """A task that has left this queue, and no other, sleeps here at its place."""
+        self.put_asleep(carried.task, carried.nice, carried.length, max(0, carried.lag))
+        self.places[carried.task] = carried.v + self.shift
 
     def sleep(self, task):
         """The plain sleep: the lag is kept whole, and no place."""
@@ -43,7 +51,7 @@ class DozingQueue(Queue):
         entry = self.place_for(sleeper.nice, sleeper.length, sleeper.lag)
         if task not in self.places:
             return entry
-        return fresh_entry(max(entry.v, self.places[task] - self.shift), sleeper.nice, sleeper.length)
+        return fresh_entry(max(entry.v, self.place_now(task)), sleeper.nice, sleeper.length)
 
     def wake(self, task):
         if task not in self.asleep:
@@ -65,8 +73,8 @@ class DozingQueue(Queue):
 class AsASleep(DozingQueue):
     """A doze is a sleep: the lag is kept whole, cut to two slices, and no place."""
 
-    def doze(self):
-        self.sleep(self.running)
+    def put_dozing(self, carried):
+        self.put_asleep(carried.task, carried.nice, carried.length, carried.lag)
 
 
 class AtItsPlacement(DozingQueue):
@@ -77,6 +85,77 @@ class AtItsPlacement(DozingQueue):
         return self.place_for(sleeper.nice, sleeper.length, sleeper.lag)
 
 
+class WithItsWholeDebt(DozingQueue):
+    """What is owed is kept, cut to two slices, and any debt is kept whole; a wake is at the placement."""
+
+    def doze(self):
+        lag = self.virtual_time() - self.runnable[self.running].v
+        carried = self.leave(self.running)
+        self.put_asleep(carried.task, carried.nice, carried.length, min(carried.lag, lag))
+        return carried.lag
+
+
+class LeavesWhenPicked(DozingQueue):
+    """Delayed dequeue: who is ahead stays in the queue until a pick comes to it, and leaves then with the lag 0. Who isn't ahead leaves as
+    by a sleep. A wake that comes before finds it where it stands, or at the virtual time where that is later."""
+
+    def __init__(self):
+        super().__init__()
+        self.delayed = set()
+
+    def is_ahead(self, task):
+        return self.runnable[task].v * self.load() > self.moment()
+
+    def doze(self):
+        task = self.running
+        if self.is_ahead(task):
+            self.delayed.add(task)
+            self.running = None
+        else:
+            self.sleep(task)
+
+    def drop(self, task):
+        self.delayed.remove(task)
+        carried = self.leave(task)
+        self.put_asleep(task, carried.nice, carried.length, 0)
+
+    def pick(self):
+        while (first := self.peek()) in self.delayed:
+            self.drop(first)
+        return super().pick()
+
+    def wake(self, task):
+        if task not in self.delayed:
+            return super().wake(task)
+        if self.lag_of(task) > 0:
+            self.drop(task)
+            return super().wake(task)
+        self.delayed.remove(task)
+        return "woken"
+
+
+class LeavesOnceNotAhead(LeavesWhenPicked):
+    """Delayed dequeue in which who was ahead leaves as soon as it isn't."""
+
+    def drop_due(self):
+        while due := [task for task in self.delayed if not self.is_ahead(task)]:
+            self.drop(min(due))
+
+    def doze(self):
+        super().doze()
+        self.drop_due()
+
+    def tick(self, nanoseconds):
+        answer = super().tick(nanoseconds)
+        self.drop_due()
+        return answer
+
+    def wake(self, task):
+        answer = super().wake(task)
+        self.drop_due()
+        return answer
+
+
 class WithoutTheShift(DozingQueue):
     """A rebase lowers the queue and forgets those that doze."""
 
@@ -84,4 +163,11 @@ class WithoutTheShift(DozingQueue):
         return Queue.rebase(self)
 
 
-RULES = {"a doze is a sleep": AsASleep, "a wake is at its placement": AtItsPlacement, "a rebase isn't added": WithoutTheShift}
+RULES = {
+    "a doze is a sleep": AsASleep,
+    "a wake is at its placement": AtItsPlacement,
+    "a debt is kept whole": WithItsWholeDebt,
+    "who is ahead leaves when it is picked": LeavesWhenPicked,
+    "who is ahead leaves once it isn't": LeavesOnceNotAhead,
+    "a rebase isn't added": WithoutTheShift,
+}

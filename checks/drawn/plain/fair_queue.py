@@ -1,7 +1,7 @@
 """A fair queue: "Bounds of a fair queue" of docs/model.md, beside how late requests really are."""
 
+from plain.dozes import DozingQueue
 from plain.numbers import charge_of
-from plain.queue import Queue
 
 LEAST, GREATEST = -(2**63), 2**63 - 1
 
@@ -13,7 +13,7 @@ def held(number):
 
 class FairQueue:
     def __init__(self):
-        self.queue = Queue()
+        self.queue = DozingQueue()
         self.front, self.longest, self.turn = LEAST, 0, None
 
     def bound(self):
@@ -42,6 +42,16 @@ class FairQueue:
         else:
             self.turn = held(self.turn + charge_of(nanoseconds, entry.weight()))
             self.longest = max(self.longest, self.turn)
+
+    def adopt(self, task):
+        if task in self.queue.runnable:
+            self.queue.running, self.turn = task, None
+
+    def measure(self):
+        """Looks at each runnable task in place of what was kept."""
+        entries = self.queue.runnable.values()
+        self.front = LEAST
+        self.longest = max(0, held(max(entry.v for entry in entries) - min(entry.d for entry in entries))) if entries else 0
 
     def change(self, task, call):
         """Makes a call that touches one task alone, and looks at it beside the mark of before."""

@@ -15,6 +15,7 @@ LONGEST = 100000000
 # The words that a version has and those before it haven't.
 OF_VERSION_TWO = ("renice",)
 OF_VERSION_THREE = ("begin", "end", "set", "rebase")
+OF_VERSION_FOUR = ("doze",)
 
 
 @dataclass(frozen=True)
@@ -27,8 +28,9 @@ class Limits:
 
 
 VERSIONS = {
-    1: Limits(16, 160000, OF_VERSION_TWO + OF_VERSION_THREE),
-    2: Limits(64, 640000, OF_VERSION_THREE),
-    3: Limits(64, 640000, ()),
+    1: Limits(16, 160000, OF_VERSION_TWO + OF_VERSION_THREE + OF_VERSION_FOUR),
+    2: Limits(64, 640000, OF_VERSION_THREE + OF_VERSION_FOUR),
+    3: Limits(64, 640000, OF_VERSION_FOUR),
+    4: Limits(64, 640000, ()),
 }
-NEWEST = 3
+NEWEST = 4

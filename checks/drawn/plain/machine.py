@@ -1,14 +1,14 @@
 """Setups, deeds and whole operations: "The machine" of docs/model.md.
 
-An operation and a deed are tuples: ("tick", N), ("pick",), ("yield",), ("sleep", T), ("pull", S), ("renice", T, N),
-("begin", T, N, S), ("end", T), ("set", T, N, S), ("rebase",), ("post", T), ("drain",), and of deeds alone ("wake", T, Q). A deed
-stands beside the number of its CPU.
+An operation and a deed are tuples: ("tick", N), ("pick",), ("yield",), ("sleep", T), ("doze", T), ("pull", S),
+("renice", T, N), ("begin", T, N, S), ("end", T), ("set", T, N, S), ("rebase",), ("post", T), ("drain",), and of deeds alone
+("wake", T, Q). A deed stands beside the number of its CPU.
 """
 
-from dataclasses import dataclass
+from dataclasses import dataclass, replace
 
+from plain.dozes import DozingQueue
 from plain.numbers import weight_of
-from plain.queue import Queue
 
 
 @dataclass(frozen=True)
@@ -30,7 +30,7 @@ class Setup:
 
 
 def queues_at_start(setup):
-    queues = [Queue() for _ in setup.programs]
+    queues = [DozingQueue() for _ in setup.programs]
     for number, task in enumerate(setup.tasks):
         if task.asleep:
             queues[task.home].put_asleep(number, task.nice, task.length, 0)
@@ -47,7 +47,7 @@ def is_allowed(setup, cpu, deed):
     if cpu >= setup.cpus():
         return False
     name, operands = deed[0], deed[1:]
-    if name in ("sleep", "renice", "end", "set"):
+    if name in ("sleep", "doze", "renice", "end", "set"):
         return operands[0] < len(setup.tasks)
     if name == "begin":
         return is_at_home(setup, cpu, operands[0])
@@ -72,19 +72,35 @@ def pull_refusal(queues, cpu, source):
     return None
 
 
-def sleep(setup, queues, cpu, task):
+def put_to_sleep(setup, queues, cpu, carried):
+    """A task that has left a CPU sleeps at its home."""
+    queues[setup.tasks[carried.task].home].put_asleep(carried.task, carried.nice, carried.length, carried.lag)
+
+
+def put_to_doze(setup, queues, cpu, carried):
+    """The same by a doze. Away from its home there is no place, since the virtual times of two queues aren't to be compared."""
+    if is_at_home(setup, cpu, carried.task):
+        queues[cpu].put_dozing(carried)
+    else:
+        put_to_sleep(setup, queues, cpu, carried)
+
+
+def sleep(setup, queues, cpu, task, put_down=put_to_sleep):
     if queues[cpu].running != task:
         return "not running"
     carried = queues[cpu].leave(task)
-    queues[setup.tasks[task].home].put_asleep(task, carried.nice, carried.length, carried.lag)
+    put_down(setup, queues, cpu, carried)
     return f"slept {carried.lag}"
+
+
+def doze(setup, queues, cpu, task):
+    return sleep(setup, queues, cpu, task, put_to_doze)
 
 
 def end(setup, queues, cpu, task):
     if task not in queues[cpu].runnable:
         return "not here"
-    carried = queues[cpu].leave(task)
-    queues[setup.tasks[task].home].put_asleep(task, carried.nice, carried.length, 0)
+    put_to_sleep(setup, queues, cpu, replace(queues[cpu].leave(task), lag=0))
     return "ended"
 
 
@@ -122,6 +138,8 @@ def whole(setup, queues, cpu, deed):
     """Does a deed at once, and gives its answer."""
     if deed[0] == "sleep":
         return sleep(setup, queues, cpu, deed[1])
+    if deed[0] == "doze":
+        return doze(setup, queues, cpu, deed[1])
     if deed[0] == "end":
         return end(setup, queues, cpu, deed[1])
     if deed[0] == "pull":

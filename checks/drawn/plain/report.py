@@ -14,10 +14,15 @@ def line_of_task(queue, task):
     return f"task {task} v {entry.v} d {entry.d} lag {queue.lag_of(task)}{running}"
 
 
+def line_of_sleeper(queue, task):
+    place = queue.place_now(task)
+    return f"asleep {task} lag {queue.asleep[task].lag}" + ("" if place is None else f" place {place}")
+
+
 def lines_of_queue(queue):
     lines = [f"load {queue.load()} floor {queue.virtual_time()}"]
     lines += [line_of_task(queue, task) for task in sorted(queue.runnable)]
-    lines += [f"asleep {task} lag {queue.asleep[task].lag}" for task in sorted(queue.asleep)]
+    lines += [line_of_sleeper(queue, task) for task in sorted(queue.asleep)]
     return lines
 
 

@@ -2,7 +2,7 @@
 
 from dataclasses import replace
 
-from plain.machine import Outcome, own_deed, pull_refusal, queues_at_start
+from plain.machine import Outcome, own_deed, pull_refusal, put_to_doze, put_to_sleep, queues_at_start
 
 
 def locked_pair(one, other, between):
@@ -25,7 +25,7 @@ def steps_of(setup, cpu, operation):
     if name == "drain":
         found = [step for sender in range(setup.cpus()) for step in (("take", sender), ("settle", sender))]
         return [("acquire", cpu), *found, ("release", cpu)]
-    if name in ("sleep", "end"):
+    if name in ("sleep", "doze", "end"):
         return moving_steps(cpu, setup.tasks[operation[1]].home, operation)
     if name == "pull":
         return moving_steps(cpu, operation[1], operation)
@@ -85,8 +85,8 @@ class Player:
         self.answers[caller] = own_deed(self.queues[caller], operation)
 
     def detach(self, caller, operation):
-        by_name = {"sleep": self.detach_running, "end": self.detach_ending, "pull": self.detach_candidate}
-        by_name[operation[0]](caller, operation[1])
+        by_name = {"end": self.detach_ending, "pull": self.detach_candidate}
+        by_name.get(operation[0], self.detach_running)(caller, operation[1])
 
     def detach_running(self, caller, task):
         if self.queues[caller].running != task:
@@ -115,8 +115,9 @@ class Player:
         if carried is None:
             return
         if operation[0] in ("sleep", "end"):
-            home = self.setup.tasks[carried.task].home
-            self.queues[home].put_asleep(carried.task, carried.nice, carried.length, carried.lag)
+            put_to_sleep(self.setup, self.queues, caller, carried)
+        elif operation[0] == "doze":
+            put_to_doze(self.setup, self.queues, caller, carried)
         else:
             self.queues[caller].put(carried.task, carried.nice, carried.length, carried.lag)
 

@@ -13,6 +13,7 @@ SHARED = {
     "pick": re.compile("pick"),
     "yield": re.compile("yield"),
     "sleep": re.compile(f"sleep {NUMBER}"),
+    "doze": re.compile(f"doze {NUMBER}"),
     "pull": re.compile(f"pull {NUMBER}"),
     "renice": re.compile(f"renice {NUMBER} {LEVEL}"),
     "begin": re.compile(f"begin {NUMBER} {LEVEL} {NUMBER}"),
@@ -30,7 +31,7 @@ def is_within(limits, name, numbers):
         return False
     if name == "tick":
         return 1 <= numbers[0] <= 1000000000
-    if name in ("sleep", "post", "end"):
+    if name in ("sleep", "doze", "post", "end"):
         return numbers[0] < TASKS
     if name == "pull":
         return numbers[0] < limits.cpus

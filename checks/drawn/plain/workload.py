@@ -119,7 +119,7 @@ def check_task(setup, number, task):
 
 
 def check_operation(setup, cpu, at, operation):
-    if operation[0] in ("sleep", "post", "renice", "begin", "end", "set") and operation[1] >= len(setup.tasks):
+    if operation[0] in ("sleep", "doze", "post", "renice", "begin", "end", "set") and operation[1] >= len(setup.tasks):
         raise Fault(f"unknown task at program {cpu} at {at}")
     if operation[0] == "begin" and not is_at_home(setup, cpu, operation[1]):
         raise Fault(f"bad begin at program {cpu} at {at}")

@@ -5,27 +5,27 @@ use Rattle.std.specs.{Ordering.nat_cmp, Ordering.eq_by_cmp, Cmp.nat_cmp_total, I
 use Rattle.std.specs.FinMap.{FinMap, get, insert, remove, get-insert}
 use Rattle.std.proofs.{lemmas.Int.ints, lemmas.Int.clamps}
 use Rattle.eevdf_queue.specs.{declared.entry.Entry.Entry, declared.sleeper.Sleeper.Sleeper, State.State, Kept.IsSound, Kept.RunnerIsHere}
-use Rattle.eevdf_queue.specs.{Candidate.is_running, Leaving.leave, Leaving.without_entry, Leaving.stopped, Leaving.nobody_runs, Placing.placement, Moves.fresh_entry}
+use Rattle.eevdf_queue.specs.{Candidate.is_running, Leaving.stopped, Leaving.nobody_runs, Placing.placement, Doze.doze, Wake.waking_runtime, Wake.wake}
 use Rattle.eevdf_queue.specs.Yield.{yield_now}
 use Rattle.eevdf_queue.specs.SliceChange.{set_slice}
 use Rattle.eevdf_queue.specs.Rebase.{rebase}
 use Rattle.eevdf_queue.proofs.{Foremost.equal_number, Foremost.itself, Sound.gone as gone_from}
-use Rattle.eevdf_dozes.specs.Places.{PlacedQueue, place_by, place_of, IsNoEarlier}
+use Rattle.eevdf_dozes.specs.Places.{place_by, place_of, IsNoEarlier}
 use Rattle.eevdf_dozes.specs.Stretches.{Watch, HaveLevels, Stays, RunsOn, IsChange}
-use Rattle.eevdf_dozes.specs.Dozes.{keeping, dozed, doze, waking_runtime, put_at, woken, wake_sleeper, wake, rebase_placed}
 use Rattle.eevdf_dozes.specs.Calls.{Touches, OthersMayBeTouched, IsDozing, DozesIfItCounts, SleepersAreAtRest, CallsAreChanges}
 use Rattle.eevdf_dozes.proofs.Optional.{one_entry, no_earlier, standing}
 use Rattle.eevdf_dozes.proofs.Standing.{standing_is_change, yields_stand, slices_stand, stops_stand, rebases_stand}
-use Rattle.eevdf_dozes.proofs.Touching.{doze_touches, wake_touches, put_is}
+use Rattle.eevdf_dozes.proofs.Dozing.{dozing_in, doze_is, awake_entry, awake_in, wake_is}
+use Rattle.eevdf_dozes.proofs.Touching.{doze_touches, wake_touches}
 
 same_time : (z : ℤ) → z ≤ℤ z
 same_time z = omega (arith, ints)
 
 -- ---- a task that isn't touched stands where it stood
-pub stands_still : (task t : ℕ) (q r : PlacedQueue) → Touches task q r → (t ≡ task → ⊥) → place_of q t ≡ place_of r t
+pub stands_still : (task t : ℕ) (q r : State) → Touches task q r → (t ≡ task → ⊥) → place_of q t ≡ place_of r t
 stands_still task t q r h other =
-    ap (λ (z : ℤ). place_by z (get q.places t) (get q.queue.runnable t)) (sym h.shift)
-    ∙ ap (λ (o : Option ℤ). place_by r.shift o (get q.queue.runnable t)) (sym (h.places t other))
+    ap (λ (z : ℤ). place_by z (get q.places t) (get q.runnable t)) (sym h.shift)
+    ∙ ap (λ (o : Option ℤ). place_by r.shift o (get q.runnable t)) (sym (h.places t other))
     ∙ ap (place_by r.shift (get r.places t)) (sym (h.runnable t other))
 
 pub differs : (t task : ℕ) → eq_by_cmp nat_cmp t task ≡ false → t ≡ task → ⊥
@@ -40,20 +40,20 @@ pub none_there : (o : Option Entry) (e : Entry) → o ≡ None → o ≡ Some e 
 none_there o e none some = cc
 
 -- what holds of the touched task, if it counts
-pub record IsFine (w : Watch) (task : ℕ) (q r : PlacedQueue) : Type 0 where
+pub record IsFine (w : Watch) (task : ℕ) (q r : State) : Type 0 where
   pub place : w.counts task ≡ true → IsNoEarlier (place_of q task) (place_of r task)
-  pub runner : w.counts task ≡ true → r.queue.running ≡ Some task → RunsOn task q r
-  pub level : (e : Entry) → w.counts task ≡ true → HaveLevels w q.queue.runnable → get r.queue.runnable task ≡ Some e → e.nice ≡ w.nice_of task
+  pub runner : w.counts task ≡ true → r.running ≡ Some task → RunsOn task q r
+  pub level : (e : Entry) → w.counts task ≡ true → HaveLevels w q.runnable → get r.runnable task ≡ Some e → e.nice ≡ w.nice_of task
 
-no_change : (w : Watch) (task : ℕ) (q : PlacedQueue) → IsFine w task q q
+no_change : (w : Watch) (task : ℕ) (q : State) → IsFine w task q q
 no_change w task q = record {
   place = λ counts. no_earlier (place_of q task) (place_of q task) refl;
   runner = λ counts runs. record { ran = runs; no_further = no_earlier (place_of q task) (place_of q task) refl };
   level = λ e counts levels here. levels task e counts here;
 }
 
-module _ (w : Watch) (task : ℕ) (q r : PlacedQueue) (h : Touches task q r) (fine : IsFine w task q r) where
-  stays_there : (task ≡ w.stays → ⊥) → (e : Entry) → get q.queue.runnable w.stays ≡ Some e → Stays w.stays q r e
+module _ (w : Watch) (task : ℕ) (q r : State) (h : Touches task q r) (fine : IsFine w task q r) where
+  stays_there : (task ≡ w.stays → ⊥) → (e : Entry) → get q.runnable w.stays ≡ Some e → Stays w.stays q r e
   stays_there other e here = record {
     entry = e;
     here = h.runnable w.stays (λ is. other (sym is)) ∙ here;
@@ -68,20 +68,20 @@ module _ (w : Watch) (task : ℕ) (q r : PlacedQueue) (h : Touches task q r) (fi
   place_then t false is counts =
       no_earlier (place_of q t) (place_of r t) (stands_still task t q r h (λ same. differs t task is same))
 
-  runner_then : (t : ℕ) (b : Bool) → eq_by_cmp nat_cmp t task ≡ b → w.counts t ≡ true → r.queue.running ≡ Some t → RunsOn t q r
+  runner_then : (t : ℕ) (b : Bool) → eq_by_cmp nat_cmp t task ≡ b → w.counts t ≡ true → r.running ≡ Some t → RunsOn t q r
   runner_then t true is counts runs =
       let same : t ≡ task = equal_number t task is in
-      subst (λ (u : ℕ). w.counts u ≡ true → r.queue.running ≡ Some u → RunsOn u q r) (sym same) fine.runner counts runs
+      subst (λ (u : ℕ). w.counts u ≡ true → r.running ≡ Some u → RunsOn u q r) (sym same) fine.runner counts runs
   runner_then t false is counts runs = record {
     ran = h.runs t (λ same. differs t task is same) runs;
     no_further = no_earlier (place_of r t) (place_of q t) (sym (stands_still task t q r h (λ same. differs t task is same)));
   }
 
-  level_then : (t : ℕ) (b : Bool) → eq_by_cmp nat_cmp t task ≡ b → HaveLevels w q.queue.runnable → (e : Entry) → w.counts t ≡ true
-      → get r.queue.runnable t ≡ Some e → e.nice ≡ w.nice_of t
+  level_then : (t : ℕ) (b : Bool) → eq_by_cmp nat_cmp t task ≡ b → HaveLevels w q.runnable → (e : Entry) → w.counts t ≡ true
+      → get r.runnable t ≡ Some e → e.nice ≡ w.nice_of t
   level_then t true is levels e counts here =
       let same : t ≡ task = equal_number t task is in
-      subst (λ (u : ℕ). w.counts u ≡ true → get r.queue.runnable u ≡ Some e → e.nice ≡ w.nice_of u) (sym same) (λ does there. fine.level e does levels there)
+      subst (λ (u : ℕ). w.counts u ≡ true → get r.runnable u ≡ Some e → e.nice ≡ w.nice_of u) (sym same) (λ does there. fine.level e does levels there)
       counts here
   level_then t false is levels e counts here = levels t e counts (sym (h.runnable t (λ same. differs t task is same)) ∙ here)
 
@@ -117,41 +117,25 @@ pub stopped_is : (running : Option ℕ) (task : ℕ) → is_running running task
 stopped_is running task is = ap (λ (b : Bool). cond b None running) is
 
 -- it stays at its place
-dozed_there : (q : PlacedQueue) (task : ℕ) (o : Option Entry) → get q.queue.runnable task ≡ o → place_of q task ≡ place_of (dozed q task o) task
-dozed_there q task None here = refl
-dozed_there q task (Some e) here =
-    let left : leave q.queue task ≡ without_entry q.queue task (Some e) = ap (without_entry q.queue task) here in
-    let gone : get (leave q.queue task).runnable task ≡ None = ap (λ (s : State). get s.runnable task) left ∙ gone_from q.queue.runnable task in
-    standing q.shift (get q.places task) (get q.queue.runnable task) e here
-    ∙ sym (ap (place_by q.shift (get (insert q.places task (e.v +ℤ q.shift)) task)) gone ∙ here_now q.places task (e.v +ℤ q.shift))
+dozing_there : (q : State) (task : ℕ) (e : Entry) → get q.runnable task ≡ Some e → place_of q task ≡ place_of (dozing_in q task e) task
+dozing_there q task e here =
+    standing q.shift (get q.places task) (get q.runnable task) e here
+    ∙ sym (ap (place_by q.shift (get (insert q.places task (e.v +ℤ q.shift)) task)) (gone_from q.runnable task) ∙ here_now q.places task (e.v +ℤ q.shift))
 
-doze_there_by : (q : PlacedQueue) (task : ℕ) (b : Bool) → place_of q task ≡ place_of (cond b (dozed q task (get q.queue.runnable task)) q) task
-doze_there_by q task true = dozed_there q task (get q.queue.runnable task) refl
-doze_there_by q task false = refl
+pub doze_there : (q : State) (task : ℕ) → place_of q task ≡ place_of (doze q task) task
+doze_there q task = doze_is (λ r. place_of q task ≡ place_of r task) q task refl (λ e runs here. dozing_there q task e here)
 
-pub doze_there : (q : PlacedQueue) (task : ℕ) → place_of q task ≡ place_of (doze q task) task
-doze_there q task = doze_there_by q task (is_running q.queue.running task)
+dozing_fine : (w : Watch) (q : State) (task : ℕ) (e : Entry) → is_running q.running task ≡ true → get q.runnable task ≡ Some e → IsFine w task q (dozing_in q task e)
+dozing_fine w q task e runs here = record {
+  place = λ counts. no_earlier (place_of q task) (place_of (dozing_in q task e) task) (dozing_there q task e here);
+  runner = λ counts is. absurd (nobody_is (stopped q.running task) task (stopped_is q.running task runs) is);
+  level = λ f counts levels there. absurd (none_there (get (remove q.runnable task) task) f (gone_from q.runnable task) there);
+}
 
-dozed_fine : (w : Watch) (q : PlacedQueue) (task : ℕ) (o : Option Entry) → get q.queue.runnable task ≡ o → is_running q.queue.running task ≡ true
-    → IsFine w task q (dozed q task o)
-dozed_fine w q task None here runs = no_change w task q
-dozed_fine w q task (Some e) here runs =
-    let left : leave q.queue task ≡ without_entry q.queue task (Some e) = ap (without_entry q.queue task) here in
-    let gone : get (leave q.queue task).runnable task ≡ None = ap (λ (s : State). get s.runnable task) left ∙ gone_from q.queue.runnable task in
-    let nobody : (leave q.queue task).running ≡ None = ap (λ (s : State). s.running) left ∙ stopped_is q.queue.running task runs in
-    record {
-      place = λ counts. no_earlier (place_of q task) (place_of (dozed q task (Some e)) task) (dozed_there q task (Some e) here);
-      runner = λ counts is. absurd (nobody_is (leave q.queue task).running task nobody is);
-      level = λ f counts levels there. absurd (none_there (get (leave q.queue task).runnable task) f gone there);
-    }
-
-doze_by : (w : Watch) (q : PlacedQueue) (task : ℕ) (b : Bool) → is_running q.queue.running task ≡ b
-    → IsFine w task q (cond b (dozed q task (get q.queue.runnable task)) q)
-doze_by w q task true is = dozed_fine w q task (get q.queue.runnable task) refl is
-doze_by w q task false is = no_change w task q
-
-dozes : (w : Watch) (q : PlacedQueue) (task : ℕ) → (task ≡ w.stays → ⊥) → IsChange w q (doze q task)
-dozes w q task = touch_is_change w task q (doze q task) (doze_touches q task) (doze_by w q task (is_running q.queue.running task) refl)
+dozes : (w : Watch) (q : State) (task : ℕ) → (task ≡ w.stays → ⊥) → IsChange w q (doze q task)
+dozes w q task =
+    touch_is_change w task q (doze q task) (doze_touches q task)
+    (doze_is (IsFine w task q) q task (no_change w task q) (λ e runs here. dozing_fine w q task e runs here))
 
 -- ---- its wake
 -- one that sleeps isn't runnable, and doesn't run
@@ -186,48 +170,40 @@ sleepers_are_at_rest q task s sound asleep =
     let none : get q.runnable task ≡ None = at_rest q task s sound asleep in
     record { not_runnable = none; not_running = not_running q task sound none }
 
-module _ (w : Watch) (q : PlacedQueue) (task : ℕ) (s : Sleeper) (dozing_if : w.counts task ≡ true → IsDozing w q task s) where
-  abbrev waking : ℤ
-  waking = waking_runtime q s (get q.places task)
+module _ (w : Watch) (q : State) (task : ℕ) (s : Sleeper) (dozing_if : w.counts task ≡ true → IsDozing w q task s) where
+  abbrev entry : Entry
+  entry = awake_entry q task s
 
-  woken_fine : (o : Option State) → put_at q.queue task s waking ≡ o → IsFine w task q (woken q task o).1
-  woken_fine None is = no_change w task q
-  woken_fine (Some joined) is =
-      let e : Entry = fresh_entry waking s.nice s.slice in
-      let whole : joined ≡ record (q.queue) { runnable = insert q.queue.runnable task e } = put_is q.queue joined task s waking is in
-      let now : get joined.runnable task ≡ Some e = ap (λ (x : State). get x.runnable task) whole ∙ here_now q.queue.runnable task e in
-      let still : joined.running ≡ q.queue.running = ap (λ (x : State). x.running) whole in
-      record {
-        place = λ counts.
-            let d : IsDozing w q task s = dozing_if counts in
-            let before : place_of q task ≡ Some d.place = ap (place_by q.shift (get q.places task)) d.not_runnable ∙ d.kept in
-            let after : place_of (woken q task (Some joined)).1 task ≡ Some (waking +ℤ q.shift) =
-            standing q.shift (get (remove q.places task) task) (get joined.runnable task) e now in
-            let later : d.place ≤ℤ (waking +ℤ q.shift) =
-            subst (λ (x : Option ℤ). d.place ≤ℤ (waking_runtime q s x +ℤ q.shift)) (sym d.kept) (later_of_both d.place q.shift (placement q.queue s)) in
-            not_before (place_of q task) (place_of (woken q task (Some joined)).1 task) d.place (waking +ℤ q.shift) before after later;
-        runner = λ counts runs. absurd ((dozing_if counts).not_running (sym still ∙ runs));
-        level = λ f counts levels here.
-            let same : e ≡ f = one_entry e f (get joined.runnable task) now here in
-            subst (λ (x : Entry). x.nice ≡ w.nice_of task) same (dozing_if counts).level;
-      }
+  now : get (awake_in q task s).runnable task ≡ Some entry
+  now = here_now q.runnable task entry
 
-wake_by : (w : Watch) (q : PlacedQueue) (task : ℕ) (o : Option Sleeper) → get q.queue.asleep task ≡ o → DozesIfItCounts w q task
-    → IsFine w task q (wake_sleeper q task o).1
-wake_by w q task None is dozing_if = no_change w task q
-wake_by w q task (Some s) is dozing_if =
-    woken_fine w q task s (λ counts. dozing_if s counts is) (put_at q.queue task s (waking_runtime q s (get q.places task))) refl
+  awake_fine : IsFine w task q (awake_in q task s)
+  awake_fine = record {
+    place = λ counts.
+        let d : IsDozing w q task s = dozing_if counts in
+        let before : place_of q task ≡ Some d.place = ap (place_by q.shift (get q.places task)) d.not_runnable ∙ d.kept in
+        let after : place_of (awake_in q task s) task ≡ Some (entry.v +ℤ q.shift) =
+        standing q.shift (get (remove q.places task) task) (get (awake_in q task s).runnable task) entry now in
+        let later : d.place ≤ℤ (entry.v +ℤ q.shift) =
+        subst (λ (x : Option ℤ). d.place ≤ℤ (waking_runtime q s x +ℤ q.shift)) (sym d.kept) (later_of_both d.place q.shift (placement q s)) in
+        not_before (place_of q task) (place_of (awake_in q task s) task) d.place (entry.v +ℤ q.shift) before after later;
+    runner = λ counts runs. absurd ((dozing_if counts).not_running runs);
+    level = λ f counts levels here.
+        let same : entry ≡ f = one_entry entry f (get (awake_in q task s).runnable task) now here in
+        subst (λ (x : Entry). x.nice ≡ w.nice_of task) same (dozing_if counts).level;
+  }
 
-wakes : (w : Watch) (q : PlacedQueue) (task : ℕ) → (task ≡ w.stays → ⊥) → DozesIfItCounts w q task → IsChange w q (wake q task).1
+wakes : (w : Watch) (q : State) (task : ℕ) → (task ≡ w.stays → ⊥) → DozesIfItCounts w q task → IsChange w q (wake q task).1
 wakes w q task other dozing_if =
-    touch_is_change w task q (wake q task).1 (wake_touches q task) (wake_by w q task (get q.queue.asleep task) refl dozing_if) other
+    touch_is_change w task q (wake q task).1 (wake_touches q task)
+    (wake_is (IsFine w task q) q task (no_change w task q) (λ s asleep. awake_fine w q task s (λ counts. dozing_if s counts asleep))) other
 
 pub calls_are_changes : CallsAreChanges
 calls_are_changes = record {
   dozes = dozes;
   wakes = wakes;
-  yields = λ w q. standing_is_change w q (keeping q (yield_now q.queue).1) (pos 0) (yields_stand q);
-  slices = λ w q task slice. standing_is_change w q (keeping q (set_slice q.queue task slice)) (pos 0) (slices_stand q task slice);
-  stops = λ w q. standing_is_change w q (keeping q (nobody_runs q.queue)) (pos 0) (stops_stand q);
-  rebases = λ w q. standing_is_change w q (rebase_placed q) (rebase q.queue).0 (rebases_stand q);
+  yields = λ w q. standing_is_change w q (yield_now q).1 (pos 0) (yields_stand q);
+  slices = λ w q task slice. standing_is_change w q (set_slice q task slice) (pos 0) (slices_stand q task slice);
+  stops = λ w q. standing_is_change w q (nobody_runs q) (pos 0) (stops_stand q);
+  rebases = λ w q. standing_is_change w q (rebase q).1 (rebase q).0 (rebases_stand q);
 }

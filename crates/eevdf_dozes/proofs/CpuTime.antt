@@ -4,7 +4,6 @@ use Rattle.std.specs.Prelude.{◌==◌}
 use Rattle.eevdf_queue.specs.{declared.answers.TickAnswer.TickAnswer, State.State, Tick.tick}
 use Rattle.eevdf_queue.specs.declared.answers.TickAnswer.TheVariants.{Charged, Idle, Range}
 use Rattle.eevdf_fairness.specs.Tallies.{if_charged, if_charged_to}
-use Rattle.eevdf_dozes.specs.Places.{PlacedQueue}
 use Rattle.eevdf_dozes.specs.Stretches.{Event, Picks, Ticks, Becomes, picked, ticked}
 use Rattle.eevdf_dozes.specs.Shares.{time_of, sum_times, cpu_time, times_in, TheyHaveTheCpu}
 use Rattle.eevdf_dozes.proofs.Ticking.{tick_cases}
@@ -18,18 +17,18 @@ sum_charged answer ns (t ∷ ts) = if_charged_to t answer ns + sum_charged answe
 both : (a b c d e : ℕ) → c ≡ d + e → (a + b) + c ≡ (a + d) + (b + e)
 both a b c d e h = omega (arith, h)
 
-tick_first : (q : PlacedQueue) (ns : ℕ) (events : List Event) (ts : List ℕ)
-    → sum_times q (Ticks ns ∷ events) ts ≡ sum_charged (tick q.queue ns).0 ns ts + sum_times (ticked q ns) events ts
+tick_first : (q : State) (ns : ℕ) (events : List Event) (ts : List ℕ)
+    → sum_times q (Ticks ns ∷ events) ts ≡ sum_charged (tick q ns).0 ns ts + sum_times (ticked q ns) events ts
 tick_first q ns events [] = refl
 tick_first q ns events (t ∷ ts) =
-    both (if_charged_to t (tick q.queue ns).0 ns) (time_of t (ticked q ns) events) (sum_times q (Ticks ns ∷ events) ts)
-    (sum_charged (tick q.queue ns).0 ns ts) (sum_times (ticked q ns) events ts) (tick_first q ns events ts)
+    both (if_charged_to t (tick q ns).0 ns) (time_of t (ticked q ns) events) (sum_times q (Ticks ns ∷ events) ts)
+    (sum_charged (tick q ns).0 ns ts) (sum_times (ticked q ns) events ts) (tick_first q ns events ts)
 
-pick_first : (q : PlacedQueue) (events : List Event) (ts : List ℕ) → sum_times q (Picks ∷ events) ts ≡ sum_times (picked q) events ts
+pick_first : (q : State) (events : List Event) (ts : List ℕ) → sum_times q (Picks ∷ events) ts ≡ sum_times (picked q) events ts
 pick_first q events [] = refl
 pick_first q events (t ∷ ts) = ap (λ (n : ℕ). time_of t (picked q) events + n) (pick_first q events ts)
 
-change_first : (q r : PlacedQueue) (events : List Event) (ts : List ℕ) → sum_times q (Becomes r ∷ events) ts ≡ sum_times r events ts
+change_first : (q r : State) (events : List Event) (ts : List ℕ) → sum_times q (Becomes r ∷ events) ts ≡ sum_times r events ts
 change_first q r events [] = refl
 change_first q r events (t ∷ ts) = ap (λ (n : ℕ). time_of t r events + n) (change_first q r events ts)
 
@@ -61,7 +60,7 @@ one_tick q ns ts here =
 added : (a b c d : ℕ) → a ≡ b → c ≡ d → a + c ≡ b + d
 added a b c d h k = omega (arith, h, k)
 
-no_times : (q : PlacedQueue) (ts : List ℕ) → sum_times q [] ts ≡ 0
+no_times : (q : State) (ts : List ℕ) → sum_times q [] ts ≡ 0
 no_times q [] = refl
 no_times q (t ∷ ts) = let rest = no_times q ts in omega (arith, rest)
 
@@ -70,6 +69,6 @@ they_have_the_cpu q [] ts only = no_times q ts
 they_have_the_cpu q (Picks ∷ events) ts only = pick_first q events ts ∙ they_have_the_cpu (picked q) events ts only
 they_have_the_cpu q (Ticks ns ∷ events) ts only =
     tick_first q ns events ts
-    ∙ added (sum_charged (tick q.queue ns).0 ns ts) (if_charged (tick q.queue ns).0 ns) (sum_times (ticked q ns) events ts) (cpu_time (ticked q ns) events)
-    (one_tick q.queue ns ts only.0) (they_have_the_cpu (ticked q ns) events ts only.1)
+    ∙ added (sum_charged (tick q ns).0 ns ts) (if_charged (tick q ns).0 ns) (sum_times (ticked q ns) events ts) (cpu_time (ticked q ns) events)
+    (one_tick q ns ts only.0) (they_have_the_cpu (ticked q ns) events ts only.1)
 they_have_the_cpu q (Becomes r ∷ events) ts only = change_first q r events ts ∙ they_have_the_cpu r events ts only

@@ -1,10 +1,9 @@
 -- Calls one after the other, of which those of the tasks that count are dozes and wakes, are a stretch.
 use Rattle.std.proofs.Common.{◌≡◌, ℕ, ◌+◌, false, List, [], ◌∷◌, refl}
 use Rattle.std.specs.Prelude.{ℤ, pos}
-use Rattle.eevdf_queue.specs.{Laws.PickIsFirst, Leaving.nobody_runs, Yield.yield_now, SliceChange.set_slice, Rebase.rebase}
-use Rattle.eevdf_dozes.specs.Places.{PlacedQueue}
+use Rattle.eevdf_queue.specs.{State.State, Laws.PickIsFirst, Leaving.nobody_runs, Yield.yield_now, SliceChange.set_slice, Doze.doze, Wake.wake, Rebase.rebase}
 use Rattle.eevdf_dozes.specs.Stretches.{Becomes, Watch, IsWatched, IsChange, IsStretch, picked, ticked}
-use Rattle.eevdf_dozes.specs.{Punctual.AllCount, Punctual.NoneIsPutPast, Dozes.keeping, Dozes.doze, Dozes.wake, Dozes.rebase_placed}
+use Rattle.eevdf_dozes.specs.Punctual.{AllCount, NoneIsPutPast}
 use Rattle.eevdf_dozes.specs.Calls.{Touches, PutsNonePast}
 use Rattle.eevdf_dozes.specs.Histories.{Call, Pick, Tick, Doze, Wake, Yield, SetSlice, Stop, Rebase, Touch, events_of, AreAllowed, SleepersDoze, AllCountAlong, AreStretch, CallsAreStretch, CallsBeginWithPick}
 use Rattle.eevdf_dozes.proofs.{Steps.pick_watched, Steps.tick_watched, Steps.change_watched}
@@ -15,48 +14,48 @@ use Rattle.eevdf_dozes.proofs.Sleepers.{others_doze, pick_dozes, tick_dozes, sta
 -- ---- one call
 module _ (first : PickIsFirst) (w : Watch) where
   -- what is kept along the calls
-  record IsReady (q : PlacedQueue) : Type 0 where
-    watched : IsWatched w q
-    doze : SleepersDoze w q
+  pub record IsReady (q : State) : Type 0 where
+    pub watched : IsWatched w q
+    pub doze : SleepersDoze w q
 
   -- what a call is that is neither a pick nor a tick
-  record IsSuch (q r : PlacedQueue) : Type 0 where
-    change : IsChange w q r
-    puts : AllCount w q.queue.runnable → PutsNonePast w q r
-    doze : SleepersDoze w r
+  pub record IsSuch (q r : State) : Type 0 where
+    pub change : IsChange w q r
+    pub puts : AllCount w q.runnable → PutsNonePast w q r
+    pub doze : SleepersDoze w r
 
-  such_ready : (q r : PlacedQueue) → IsReady q → IsSuch q r → IsReady r
+  pub such_ready : (q r : State) → IsReady q → IsSuch q r → IsReady r
   such_ready q r ready such = record { watched = change_watched w q r such.change ready.watched; doze = such.doze }
 
-  standing_such : (q r : PlacedQueue) (by : ℤ) → AllStand q r by → r.queue.asleep ≡ q.queue.asleep → IsReady q → IsSuch q r
+  pub standing_such : (q r : State) (by : ℤ) → AllStand q r by → r.asleep ≡ q.asleep → IsReady q → IsSuch q r
   standing_such q r by h sleepers ready = record {
     change = standing_is_change w q r by h;
     puts = λ all. by_stand w q r by h;
     doze = stand_dozes w q r by h sleepers ready.doze;
   }
 
-  doze_such : (q : PlacedQueue) (task : ℕ) → (task ≡ w.stays → ⊥) → IsReady q → IsSuch q (doze q task)
+  pub doze_such : (q : State) (task : ℕ) → (task ≡ w.stays → ⊥) → IsReady q → IsSuch q (doze q task)
   doze_such q task other ready = record {
     change = calls_are_changes.dozes w q task other;
     puts = λ all. calls_put_none_past.dozes w q task;
     doze = doze_dozes w q task ready.watched.levels ready.doze;
   }
 
-  wake_such : (q : PlacedQueue) (task : ℕ) → (task ≡ w.stays → ⊥) → IsReady q → IsSuch q (wake q task).1
+  pub wake_such : (q : State) (task : ℕ) → (task ≡ w.stays → ⊥) → IsReady q → IsSuch q (wake q task).1
   wake_such q task other ready = record {
     change = calls_are_changes.wakes w q task other (ready.doze task);
     puts = λ all. calls_put_none_past.wakes w q task ready.watched.here all (ready.doze task);
     doze = wake_dozes w q task ready.doze;
   }
 
-  slice_such : (q : PlacedQueue) (task slice : ℕ) → IsReady q → IsSuch q (keeping q (set_slice q.queue task slice))
+  pub slice_such : (q : State) (task slice : ℕ) → IsReady q → IsSuch q (set_slice q task slice)
   slice_such q task slice ready = record {
     change = calls_are_changes.slices w q task slice;
     puts = λ all. calls_put_none_past.slices w q task slice;
     doze = slice_dozes w q task slice ready.doze;
   }
 
-  touch_such : (q r : PlacedQueue) (task : ℕ) → w.counts task ≡ false → (task ≡ w.stays → ⊥) → Touches task q r → IsReady q → IsSuch q r
+  pub touch_such : (q r : State) (task : ℕ) → w.counts task ≡ false → (task ≡ w.stays → ⊥) → Touches task q r → IsReady q → IsSuch q r
   touch_such q r task not other h ready = record {
     change = others_may_be_touched w q r task not other h;
     puts = λ all. calls_put_none_past.others w q r task not h;
@@ -64,12 +63,12 @@ module _ (first : PickIsFirst) (w : Watch) where
   }
 
   -- ---- all calls
-  one_then : (ran : ℕ) (q r : PlacedQueue) (calls : List Call) → IsSuch q r → AreStretch w ran r calls
+  one_then : (ran : ℕ) (q r : State) (calls : List Call) → IsSuch q r → AreStretch w ran r calls
       → (IsStretch w ran q (Becomes r ∷ events_of r calls))
-      × ((AllCount w q.queue.runnable × AllCountAlong w r calls) → NoneIsPutPast w q (Becomes r ∷ events_of r calls))
+      × ((AllCount w q.runnable × AllCountAlong w r calls) → NoneIsPutPast w q (Becomes r ∷ events_of r calls))
   one_then ran q r calls such rest = ((such.change, rest.stretch), λ all. (such.puts all.0, rest.none_past all.1))
 
-  are_stretch : (ran : ℕ) (q : PlacedQueue) (calls : List Call) → IsReady q → AreAllowed w ran q calls → AreStretch w ran q calls
+  are_stretch : (ran : ℕ) (q : State) (calls : List Call) → IsReady q → AreAllowed w ran q calls → AreStretch w ran q calls
   are_stretch ran q [] ready allowed = record { stretch = tt; none_past = λ all. tt }
   are_stretch ran q (Pick ∷ calls) ready allowed =
       let rest : AreStretch w 0 (picked q) calls =
@@ -88,23 +87,23 @@ module _ (first : PickIsFirst) (w : Watch) where
       let both = one_then ran q (wake q task).1 calls such (are_stretch ran (wake q task).1 calls (such_ready q (wake q task).1 ready such) allowed.1) in
       record { stretch = both.0; none_past = both.1 }
   are_stretch ran q (Yield ∷ calls) ready allowed =
-      let r : PlacedQueue = keeping q (yield_now q.queue).1 in
-      let such : IsSuch q r = standing_such q r (pos 0) (yields_stand q) (yield_sleepers q.queue) ready in
+      let r : State = (yield_now q).1 in
+      let such : IsSuch q r = standing_such q r (pos 0) (yields_stand q) (yield_sleepers q) ready in
       let both = one_then ran q r calls such (are_stretch ran r calls (such_ready q r ready such) allowed.1) in
       record { stretch = both.0; none_past = both.1 }
   are_stretch ran q (SetSlice task slice ∷ calls) ready allowed =
-      let r : PlacedQueue = keeping q (set_slice q.queue task slice) in
+      let r : State = (set_slice q task slice) in
       let such : IsSuch q r = slice_such q task slice ready in
       let both = one_then ran q r calls such (are_stretch ran r calls (such_ready q r ready such) allowed.1) in
       record { stretch = both.0; none_past = both.1 }
   are_stretch ran q (Stop ∷ calls) ready allowed =
-      let r : PlacedQueue = keeping q (nobody_runs q.queue) in
+      let r : State = (nobody_runs q) in
       let such : IsSuch q r = standing_such q r (pos 0) (stops_stand q) refl ready in
       let both = one_then ran q r calls such (are_stretch ran r calls (such_ready q r ready such) allowed.1) in
       record { stretch = both.0; none_past = both.1 }
   are_stretch ran q (Rebase ∷ calls) ready allowed =
-      let r : PlacedQueue = rebase_placed q in
-      let such : IsSuch q r = standing_such q r (rebase q.queue).0 (rebases_stand q) (rebase_sleepers q.queue) ready in
+      let r : State = (rebase q).1 in
+      let such : IsSuch q r = standing_such q r (rebase q).0 (rebases_stand q) (rebase_sleepers q) ready in
       let both = one_then ran q r calls such (are_stretch ran r calls (such_ready q r ready such) allowed.1) in
       record { stretch = both.0; none_past = both.1 }
   are_stretch ran q (Touch task r ∷ calls) ready allowed =

@@ -4,6 +4,7 @@ pub mod PicksInTime
 pub mod Steps
 pub mod Gains
 pub mod Punctual
+pub mod Dozing
 pub mod Touching
 pub mod Standing
 pub mod Changes
@@ -16,3 +17,19 @@ pub mod DueTasks
 pub mod SleepsAndDozes
 pub mod PlacesOfSleepers
 pub mod CpuTime
+pub mod Bounds
+pub mod Setbacks
+pub mod Near
+pub mod Behind
+pub mod Tame
+pub mod Ahead
+pub mod Close
+pub mod Apart
+pub mod Later
+pub mod CallsOfDeeds
+pub mod OneCpu
+pub mod FromPick
+pub mod OneCpuStretches
+pub mod OneCpuShares
+pub mod OneCpuLater
+pub mod OneCpuHistories

@@ -6,8 +6,10 @@ use Rattle.std.proofs.lemmas.Int.{ints}
 use Rattle.eevdf_queue.specs.{declared.entry.Entry.Entry, State.State, Laws.PickIsFirst, Laws.PickOfNobody}
 use Rattle.eevdf_queue.specs.Sums.{Tasks, total_weight, total_moment}
 use Rattle.eevdf_queue.specs.Pick.{IsNoLater, IsPick, is_eligible, pick_of, picked_by, after_pick}
+use Rattle.eevdf_queue.specs.Tick.{tick}
 use Rattle.eevdf_queue.proofs.Scaled.{scaled_le}
-use Rattle.eevdf_dozes.specs.Stretches.{NoneIsPastDue}
+use Rattle.eevdf_fairness.proofs.RestOfQueue.{pick_rest, tick_rest}
+use Rattle.eevdf_dozes.specs.{Places.place_of, Stretches.NoneIsPastDue}
 
 no_later : (v d e : ℤ) (p u : ℕ) (x f : Entry) → v ≤ℤ d → x.d ≡ d → f.d ≡ e → IsNoLater p x u f → v ≤ℤ e
 no_later v d e p u x f h i j (inl k) = omega (arith, ints, h, i, j, k)
@@ -38,6 +40,19 @@ in_time_by tasks p pick due u f here false is =
 pub same_tasks : (q : State) (o : Option ℕ) → (picked_by q o).runnable ≡ q.runnable
 same_tasks q None = refl
 same_tasks q (Some p) = refl
+
+stands_by : (q : State) (o : Option ℕ) (t : ℕ) → place_of (picked_by q o) t ≡ place_of q t
+stands_by q None t = refl
+stands_by q (Some p) t = refl
+
+pub pick_stands : (q : State) (t : ℕ) → place_of (after_pick q) t ≡ place_of q t
+pick_stands q t = stands_by q (pick_of q.runnable) t
+
+pub pick_shift : (q : State) → (after_pick q).shift ≡ q.shift
+pick_shift q = (pick_rest q (pick_of q.runnable)).shift
+
+pub tick_shift : (q : State) (ns : ℕ) → (tick q ns).1.shift ≡ q.shift
+tick_shift q ns = (tick_rest q ns q.running).shift
 
 -- where some task is runnable, who runs after a pick is the pick
 picked_runs : PickOfNobody → (q : State) (u t : ℕ) (f : Entry) → get q.runnable u ≡ Some f → (o : Option ℕ) → pick_of q.runnable ≡ o

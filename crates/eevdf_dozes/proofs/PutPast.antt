@@ -1,33 +1,33 @@
 -- No call puts a task that counts past where one of them stood.
-use Rattle.std.proofs.Common.{◌≡◌, ℕ, ◌+◌, ◌≤◌, Bool, true, false, cond, Option, Some, None, refl, sym, ap, ◌∙◌, subst, arith}
+use Rattle.std.proofs.Common.{◌≡◌, ℕ, ◌+◌, ◌≤◌, Bool, true, false, cond, Option, Some, refl, sym, ap, ◌∙◌, subst, arith}
 use Rattle.std.specs.Prelude.{ℤ, pos, negsuc, ◌+ℤ◌, ◌-ℤ◌, ◌*ℤ◌, ◌≤ℤ◌, ◌==◌, int_le, is_some}
 use Rattle.std.specs.{Ordering.nat_cmp, Ordering.eq_by_cmp, Int.int_max}
 use Rattle.std.specs.FinMap.{get, remove}
 use Rattle.std.proofs.{lemmas.Int.ints, lemmas.Int.clamps}
 use Rattle.eevdf_weight.specs.{Weight.weight_of, Placement.floor_div, Placement.placement_of}
 use Rattle.eevdf_weight.proofs.Weighing.{weight_of-least}
-use Rattle.eevdf_queue.specs.{declared.entry.Entry.Entry, declared.sleeper.Sleeper.Sleeper, State.State, Placing.placement, Moves.fresh_entry}
+use Rattle.eevdf_queue.specs.{declared.entry.Entry.Entry, declared.sleeper.Sleeper.Sleeper, State.State, Placing.placement, Doze.doze, Wake.waking_runtime, Wake.wake}
 use Rattle.eevdf_queue.specs.Sums.{total_weight, total_moment, virtual_time}
 use Rattle.eevdf_queue.specs.{Yield.yield_now, SliceChange.set_slice, Leaving.nobody_runs, Rebase.rebase}
 use Rattle.eevdf_queue.proofs.{Foremost.equal_number, Floors.not_above, Scaled.scaled_le, Scaled.sum_scaled}
 use Rattle.eevdf_fairness.proofs.{EntrySums.no_heavier, Inequalities.not_zero}
-use Rattle.eevdf_dozes.specs.Places.{PlacedQueue, place_by, place_of}
+use Rattle.eevdf_dozes.specs.Places.{place_by, place_of}
 use Rattle.eevdf_dozes.specs.{Stretches.Watch, Punctual.NoneStandsPast, Punctual.AllCount}
-use Rattle.eevdf_dozes.specs.Dozes.{keeping, doze, waking_runtime, put_at, woken, wake_sleeper, wake, rebase_placed}
 use Rattle.eevdf_dozes.specs.Calls.{Touches, PutsNonePast, IsDozing, DozesIfItCounts, CallsPutNonePast}
 use Rattle.eevdf_dozes.proofs.{Optional.one_place, Optional.there, Optional.standing, Punctual.time_within}
 use Rattle.eevdf_dozes.proofs.Standing.{AllStand, same_place, yields_stand, slices_stand, stops_stand, rebases_stand}
-use Rattle.eevdf_dozes.proofs.Touching.{put_is, doze_touches, wake_touches}
+use Rattle.eevdf_dozes.proofs.Dozing.{awake_entry, awake_in, wake_is}
+use Rattle.eevdf_dozes.proofs.Touching.{doze_touches, wake_touches}
 use Rattle.eevdf_dozes.proofs.Changes.{differs, here_now, stands_still, uncounted, doze_there}
 
 -- where all stand as before, or all but one that stands within the limit
-by_same : (w : Watch) (q r : PlacedQueue) → ((t : ℕ) → place_of q t ≡ place_of r t) → PutsNonePast w q r
+by_same : (w : Watch) (q r : State) → ((t : ℕ) → place_of q t ≡ place_of r t) → PutsNonePast w q r
 by_same w q r same limit none t place counts at = none t place counts (same t ∙ at)
 
-pub by_stand : (w : Watch) (q r : PlacedQueue) (by : ℤ) → AllStand q r by → PutsNonePast w q r
+pub by_stand : (w : Watch) (q r : State) (by : ℤ) → AllStand q r by → PutsNonePast w q r
 by_stand w q r by h = by_same w q r (λ t. same_place q r by t h)
 
-but_one : (w : Watch) (task : ℕ) (q r : PlacedQueue) (limit : ℤ) → Touches task q r → NoneStandsPast w limit q
+but_one : (w : Watch) (task : ℕ) (q r : State) (limit : ℤ) → Touches task q r → NoneStandsPast w limit q
     → ((place : ℤ) → w.counts task ≡ true → place_of r task ≡ Some place → place ≤ℤ limit) → NoneStandsPast w limit r
 but_one w task q r limit h none one t place counts at =
     by (eq_by_cmp nat_cmp t task) refl
@@ -38,10 +38,10 @@ but_one w task q r limit h none one t place counts at =
         subst (λ (u : ℕ). (z : ℤ) → w.counts u ≡ true → place_of r u ≡ Some z → z ≤ℤ limit) (sym same) one place counts at
     by false is = none t place counts (stands_still task t q r h (differs t task is) ∙ at)
 
-others : (w : Watch) (q r : PlacedQueue) (task : ℕ) → w.counts task ≡ false → Touches task q r → PutsNonePast w q r
+others : (w : Watch) (q r : State) (task : ℕ) → w.counts task ≡ false → Touches task q r → PutsNonePast w q r
 others w q r task not h limit none = but_one w task q r limit h none (λ place counts at. absurd (uncounted (w.counts task) not counts))
 
-dozes : (w : Watch) (q : PlacedQueue) (task : ℕ) → PutsNonePast w q (doze q task)
+dozes : (w : Watch) (q : State) (task : ℕ) → PutsNonePast w q (doze q task)
 dozes w q task limit none =
     but_one w task q (doze q task) limit (doze_touches q task) none (λ place counts at. none task place counts (doze_there q task ∙ at))
 
@@ -81,7 +81,7 @@ no_more a c n some h =
 le_then : (a b c : ℤ) → a ≤ℤ b → b ≤ℤ c → a ≤ℤ c
 le_then a b c h k = omega (arith, ints, h, k)
 
-time_is : (q : State) → 1 ≤ total_weight q.runnable → virtual_time q ≡ floor_div (total_moment q.runnable) (total_weight q.runnable)
+pub time_is : (q : State) → 1 ≤ total_weight q.runnable → virtual_time q ≡ floor_div (total_moment q.runnable) (total_weight q.runnable)
 time_is q some =
     ap (λ (b : Bool). cond b q.base (floor_div (total_moment q.runnable) (total_weight q.runnable))) (not_zero (total_weight q.runnable) some)
 
@@ -95,62 +95,53 @@ time_before q time some h =
 unshifted : (v shift limit : ℤ) → (v +ℤ shift) ≤ℤ limit → v ≤ℤ (limit -ℤ shift)
 unshifted v shift limit h = omega (arith, ints, h)
 
-some_weight : (w n : ℕ) → 15 ≤ w → w ≤ n → 1 ≤ n
+pub some_weight : (w n : ℕ) → 15 ≤ w → w ≤ n → 1 ≤ n
 some_weight w n h k = omega (arith, h, k)
 
-time_in : (w : Watch) (q : PlacedQueue) (limit : ℤ) → is_some (get q.queue.runnable w.stays) ≡ true → AllCount w q.queue.runnable
-    → NoneStandsPast w limit q → virtual_time q.queue ≤ℤ (limit -ℤ q.shift)
+time_in : (w : Watch) (q : State) (limit : ℤ) → is_some (get q.runnable w.stays) ≡ true → AllCount w q.runnable
+    → NoneStandsPast w limit q → virtual_time q ≤ℤ (limit -ℤ q.shift)
 time_in w q limit here all none =
-    let stay = there (get q.queue.runnable w.stays) here in
-    time_before q.queue (limit -ℤ q.shift)
-    (some_weight (weight_of (stay.0.nice)) (total_weight q.queue.runnable) (weight_of-least stay.0.nice) (no_heavier q.queue.runnable w.stays stay.0 stay.1))
-    (time_within q.queue.runnable (limit -ℤ q.shift) (λ t e at.
+    let stay = there (get q.runnable w.stays) here in
+    time_before q (limit -ℤ q.shift)
+    (some_weight (weight_of (stay.0.nice)) (total_weight q.runnable) (weight_of-least stay.0.nice) (no_heavier q.runnable w.stays stay.0 stay.1))
+    (time_within q.runnable (limit -ℤ q.shift) (λ t e at.
     unshifted e.v q.shift limit
-    (none t (e.v +ℤ q.shift) (all t e at) (standing q.shift (get q.places t) (get q.queue.runnable t) e at))))
+    (none t (e.v +ℤ q.shift) (all t e at) (standing q.shift (get q.places t) (get q.runnable t) e at))))
 
 -- ---- a wake
 of_both : (place shift placed time limit : ℤ) → place ≤ℤ limit → placed ≤ℤ time → time ≤ℤ (limit -ℤ shift) → (int_max (place -ℤ shift) placed +ℤ shift) ≤ℤ limit
 of_both place shift placed time limit h k l = omega (arith, ints, clamps, h, k, l)
 
-module _ (w : Watch) (q : PlacedQueue) (task : ℕ) (here : is_some (get q.queue.runnable w.stays) ≡ true) (all : AllCount w q.queue.runnable)
+module _ (w : Watch) (q : State) (task : ℕ) (here : is_some (get q.runnable w.stays) ≡ true) (all : AllCount w q.runnable)
     (limit : ℤ) (none : NoneStandsPast w limit q) where
-  woken_in : (s : Sleeper) (o : Option State) (place : ℤ) → put_at q.queue task s (waking_runtime q s (get q.places task)) ≡ o → IsDozing w q task s
-      → w.counts task ≡ true → place_of (woken q task o).1 task ≡ Some place → place ≤ℤ limit
-  woken_in s None place is d counts at = none task place counts at
-  woken_in s (Some joined) place is d counts at =
-      let v : ℤ = waking_runtime q s (get q.places task) in
-      let e : Entry = fresh_entry v s.nice s.slice in
-      let now : get joined.runnable task ≡ Some e =
-      ap (λ (x : State). get x.runnable task) (put_is q.queue joined task s v is) ∙ here_now q.queue.runnable task e in
-      let same : v +ℤ q.shift ≡ place =
-      one_place (v +ℤ q.shift) place (place_of (woken q task (Some joined)).1 task)
-      (standing q.shift (get (remove q.places task) task) (get joined.runnable task) e now) at in
-      let waking : (waking_runtime q s (get q.places task) +ℤ q.shift) ≤ℤ limit =
+  awake_there : (s : Sleeper) (place : ℤ) → IsDozing w q task s → w.counts task ≡ true → place_of (awake_in q task s) task ≡ Some place → place ≤ℤ limit
+  awake_there s place d counts at =
+      let e : Entry = awake_entry q task s in
+      let same : e.v +ℤ q.shift ≡ place =
+      one_place (e.v +ℤ q.shift) place (place_of (awake_in q task s) task)
+      (standing q.shift (get (remove q.places task) task) (get (awake_in q task s).runnable task) e (here_now q.runnable task e)) at in
+      let waking : (e.v +ℤ q.shift) ≤ℤ limit =
       subst (λ (o : Option ℤ). (waking_runtime q s o +ℤ q.shift) ≤ℤ limit) (sym d.kept)
-      (of_both d.place q.shift (placement q.queue s) (virtual_time q.queue) limit
+      (of_both d.place q.shift (placement q s) (virtual_time q) limit
       (none task d.place counts (ap (place_by q.shift (get q.places task)) d.not_runnable ∙ d.kept))
-      (placed_in_time q.queue s d.no_debt) (time_in w q limit here all none)) in
+      (placed_in_time q s d.no_debt) (time_in w q limit here all none)) in
       subst (λ (z : ℤ). z ≤ℤ limit) same waking
 
-  wake_in : (o : Option Sleeper) (place : ℤ) → get q.queue.asleep task ≡ o → DozesIfItCounts w q task
-      → w.counts task ≡ true → place_of (wake_sleeper q task o).1 task ≡ Some place → place ≤ℤ limit
-  wake_in None place is dozing counts at = none task place counts at
-  wake_in (Some s) place is dozing counts at =
-      woken_in s (put_at q.queue task s (waking_runtime q s (get q.places task))) place refl (dozing s counts is) counts at
-
-wakes : (w : Watch) (q : PlacedQueue) (task : ℕ) → is_some (get q.queue.runnable w.stays) ≡ true
-    → AllCount w q.queue.runnable → DozesIfItCounts w q task → PutsNonePast w q (wake q task).1
+wakes : (w : Watch) (q : State) (task : ℕ) → is_some (get q.runnable w.stays) ≡ true
+    → AllCount w q.runnable → DozesIfItCounts w q task → PutsNonePast w q (wake q task).1
 wakes w q task here all dozing limit none =
     but_one w task q (wake q task).1 limit (wake_touches q task) none
-    (λ place counts at. wake_in w q task here all limit none (get q.queue.asleep task) place refl dozing counts at)
+    (wake_is (λ r. (place : ℤ) → w.counts task ≡ true → place_of r task ≡ Some place → place ≤ℤ limit) q task
+    (λ place counts at. none task place counts at)
+    (λ s asleep place counts at. awake_there w q task here all limit none s place (dozing s counts asleep) counts at))
 
 pub calls_put_none_past : CallsPutNonePast
 calls_put_none_past = record {
   others = others;
   dozes = dozes;
   wakes = wakes;
-  yields = λ w q. by_stand w q (keeping q (yield_now q.queue).1) (pos 0) (yields_stand q);
-  slices = λ w q task slice. by_stand w q (keeping q (set_slice q.queue task slice)) (pos 0) (slices_stand q task slice);
-  stops = λ w q. by_stand w q (keeping q (nobody_runs q.queue)) (pos 0) (stops_stand q);
-  rebases = λ w q. by_stand w q (rebase_placed q) (rebase q.queue).0 (rebases_stand q);
+  yields = λ w q. by_stand w q (yield_now q).1 (pos 0) (yields_stand q);
+  slices = λ w q task slice. by_stand w q (set_slice q task slice) (pos 0) (slices_stand q task slice);
+  stops = λ w q. by_stand w q (nobody_runs q) (pos 0) (stops_stand q);
+  rebases = λ w q. by_stand w q (rebase q).1 (rebase q).0 (rebases_stand q);
 }

@@ -4,9 +4,9 @@ use Rattle.std.specs.Prelude.{ℤ, pos, ◌+ℤ◌}
 use Rattle.std.specs.{List.AllByRecursion}
 use Rattle.std.proofs.Math.Nat.{mul-le-mul_left}
 use Rattle.eevdf_weight.specs.{Weight.weight_of}
-use Rattle.eevdf_queue.specs.{declared.entry.Entry.Entry, Moves.request_of, Laws.PickIsFirst, Laws.PickOfNobody}
+use Rattle.eevdf_queue.specs.{declared.entry.Entry.Entry, State.State, Moves.request_of, Laws.PickIsFirst, Laws.PickOfNobody}
 use Rattle.eevdf_fairness.proofs.Growing.{rounded_down}
-use Rattle.eevdf_dozes.specs.Places.{PlacedQueue, place_of}
+use Rattle.eevdf_dozes.specs.Places.{place_of}
 use Rattle.eevdf_dozes.specs.Stretches.{Event, Watch, IsWatched, IsStretch, picked, after_events, charges}
 use Rattle.eevdf_dozes.specs.Gains.{turn_charge, ComesNoFurther, IsLevel, sum_weights, sum_charges}
 use Rattle.eevdf_dozes.specs.Shares.{time_of, lost_by, sum_times, sum_lost, HaveNoShorterTicks, LosesNoMore, lack_of, WhoStaysHasItsShare, IsBeside, numbers, sum_slices, WhoSleepsHasNoMore}
@@ -21,7 +21,7 @@ one_time w c l t C L T h k = omega (arith, h, k)
 no_time : 0 + 0 ≡ 1024 * 0
 no_time = omega arith
 
-sum_times_are : (w : Watch) (q : PlacedQueue) (events : List Event) (e : Entry) (p : PlacedQueue) → IsWatched w q → IsStretch w 0 q events → (ts : List ℕ)
+sum_times_are : (w : Watch) (q : State) (events : List Event) (e : Entry) (p : State) → IsWatched w q → IsStretch w 0 q events → (ts : List ℕ)
     → AllByRecursion (IsLevel w p e) ts → sum_charges w q events ts + sum_lost q events ts ≡ 1024 * sum_times q events ts
 sum_times_are w q events e p watched h [] level = no_time
 sum_times_are w q events e p watched h (t ∷ ts) level =
@@ -34,7 +34,7 @@ one_lost least most l t L T h k = omega (arith, h, k)
 none_lost : (least most : ℕ) → least * 0 ≤ most * 0
 none_lost least most = omega arith
 
-sum_little_lost : (w : Watch) (least most : ℕ) (q : PlacedQueue) (events : List Event) (e : Entry) (p : PlacedQueue) → IsWatched w q → IsStretch w 0 q events
+sum_little_lost : (w : Watch) (least most : ℕ) (q : State) (events : List Event) (e : Entry) (p : State) → IsWatched w q → IsStretch w 0 q events
     → HaveNoShorterTicks least events → (ts : List ℕ) → AllByRecursion (IsLevel w p e) ts → AllByRecursion (LosesNoMore most w) ts
     → least * sum_lost q events ts ≤ most * sum_times q events ts
 sum_little_lost w least most q events e p watched h long [] level loses = none_lost least most
@@ -62,7 +62,7 @@ in_time_by w o lack least most s T l R share lost =
 
 pub who_stays_has_its_share : PickIsFirst → PickOfNobody → WhoStaysHasItsShare
 who_stays_has_its_share first nobody w q events e f begins stays short counts ts level =
-    let after : PlacedQueue = picked q in
+    let after : State = picked q in
     let watched : IsWatched w after = pick_watched w q begins.watched in
     let j : ℕ = w.stays in
     let own = whole_time w j counts 0 after events watched begins.stretch in
@@ -95,7 +95,7 @@ none_beside x turn = omega arith
 swapped : (c w slice : ℕ) → c * w ≤ 1024 * slice → w * c ≤ 1024 * slice
 swapped c w slice h = omega (arith, h)
 
-module _ (first : PickIsFirst) (nobody : PickOfNobody) (w : Watch) (q : PlacedQueue) (events : List Event) (t : ℕ) (place : ℤ)
+module _ (first : PickIsFirst) (nobody : PickOfNobody) (w : Watch) (q : State) (events : List Event) (t : ℕ) (place : ℤ)
     (counts : w.counts t ≡ true) (at : place_of q t ≡ Some place) where
   beside : (ts : List (ℕ × Entry)) → AllByRecursion (IsBeside w q events place) ts
       → sum_weights w (numbers ts) * charges t (picked q) events + sum_lost (picked q) events (numbers ts)
@@ -104,7 +104,7 @@ module _ (first : PickIsFirst) (nobody : PickOfNobody) (w : Watch) (q : PlacedQu
   beside (u ∷ us) all =
       let b : IsBeside w q events place u = all.0 in
       let v : Watch = record w { stays = u.0 } in
-      let after : PlacedQueue = picked q in
+      let after : State = picked q in
       let watched : IsWatched v after = pick_watched v q b.begins.watched in
       let last : IsWatched v (after_events after events) = watched_after v 0 after events watched b.begins.stretch in
       let level : u.1.nice ≡ w.nice_of u.0 = last.levels u.0 u.1 b.counts b.stays.in_the_end in
@@ -119,12 +119,18 @@ module _ (first : PickIsFirst) (nobody : PickOfNobody) (w : Watch) (q : PlacedQu
       (one_gains place (b.entry.v +ℤ q.shift) (charges t after events) (charges u.0 after events + request_of u.1.nice u.1.slice) (turn_charge w t) gains b.not_behind)
       (whole_time v u.0 b.counts 0 after events watched b.begins.stretch) request (beside us all.1)
 
-  -- the sleeper's own time is told by any of the stretches
+  -- the sleeper's own time is told by any of the stretches, and so is what rounding takes of it
   own_time : (u : ℕ × Entry) (us : List (ℕ × Entry)) → AllByRecursion (IsBeside w q events place) (u ∷ us)
       → weight_of (w.nice_of t) * charges t (picked q) events + lost_by t (picked q) events ≡ 1024 * time_of t (picked q) events
   own_time u us all =
       let v : Watch = record w { stays = u.0 } in
       whole_time v t counts 0 (picked q) events (pick_watched v q all.0.begins.watched) all.0.begins.stretch
+
+  own_lost : (u : ℕ × Entry) (us : List (ℕ × Entry)) → AllByRecursion (IsBeside w q events place) (u ∷ us) → (least most : ℕ)
+      → HaveNoShorterTicks least events → LosesNoMore most w t → least * lost_by t (picked q) events ≤ most * time_of t (picked q) events
+  own_lost u us all least most long loses =
+      let v : Watch = record w { stays = u.0 } in
+      little_lost v t counts 0 least most (picked q) events (pick_watched v q all.0.begins.watched) all.0.begins.stretch long loses
 
 share_of_sleeper : (w o x turn l L s S slices ns : ℕ) → o * x + L ≤ 1024 * (S + slices) + o * turn → w * x + l ≡ 1024 * s → turn * w ≤ 1024 * ns
     → (w + o) * (1024 * s) + w * L ≤ w * (1024 * ((s + S) + slices)) + o * (1024 * ns) + o * l
@@ -134,15 +140,35 @@ share_of_sleeper w o x turn l L s S slices ns h own brief =
     let part : o * (turn * w) ≤ o * (1024 * ns) = mul-le-mul_left o brief in
     omega (arith, all, mine, part)
 
+sleeper_in_time : (w o slices ns least most T s L l : ℕ) → (w + o) * (1024 * s) + w * L ≤ w * (1024 * (T + slices)) + o * (1024 * ns) + o * l
+    → least * l ≤ most * s → (w + o) * (1024 * least * s) ≤ w * (1024 * least * (T + slices)) + o * (1024 * least * ns) + o * (most * s)
+sleeper_in_time w o slices ns least most T s L l share lost =
+    let all : least * ((w + o) * (1024 * s) + w * L) ≤ least * (w * (1024 * (T + slices)) + o * (1024 * ns) + o * l) = mul-le-mul_left least share in
+    let part : o * (least * l) ≤ o * (most * s) = mul-le-mul_left o lost in
+    omega (arith, all, part)
+
 alone : (w s ns l : ℕ) → (w + 0) * (1024 * s) + w * 0 ≤ w * (1024 * ((s + 0) + 0)) + 0 * (1024 * ns) + 0 * l
 alone w s ns l = omega arith
 
+pub alone_in_time : (w s ns least most : ℕ) → (w + 0) * (1024 * least * s) ≤ w * (1024 * least * ((s + 0) + 0)) + 0 * (1024 * least * ns) + 0 * (most * s)
+alone_in_time w s ns least most = omega arith
+
 pub who_sleeps_has_no_more : PickIsFirst → PickOfNobody → WhoSleepsHasNoMore
-who_sleeps_has_no_more first nobody w q events t place [] counts at all =
-    record { at_most = alone (weight_of (w.nice_of t)) (time_of t (picked q) events) w.turn (lost_by t (picked q) events) }
-who_sleeps_has_no_more first nobody w q events t place (u ∷ us) counts at all = record {
-  at_most = share_of_sleeper (weight_of (w.nice_of t)) (sum_weights w (numbers (u ∷ us))) (charges t (picked q) events) (turn_charge w t) (lost_by t (picked q) events)
-      (sum_lost (picked q) events (numbers (u ∷ us))) (time_of t (picked q) events) (sum_times (picked q) events (numbers (u ∷ us))) (sum_slices (u ∷ us)) w.turn
-      (beside first nobody w q events t place counts at (u ∷ us) all) (own_time first nobody w q events t place counts at u us all)
-      (rounded_down w.turn (weight_of (w.nice_of t)));
+who_sleeps_has_no_more first nobody w q events t place [] counts at all = record {
+  share = record { at_most = alone (weight_of (w.nice_of t)) (time_of t (picked q) events) w.turn (lost_by t (picked q) events) };
+  in_time = λ least most long loses. record { at_most = alone_in_time (weight_of (w.nice_of t)) (time_of t (picked q) events) w.turn least most };
 }
+who_sleeps_has_no_more first nobody w q events t place (u ∷ us) counts at all =
+    let o : ℕ = sum_weights w (numbers (u ∷ us)) in
+    let share = share_of_sleeper (weight_of (w.nice_of t)) o (charges t (picked q) events) (turn_charge w t) (lost_by t (picked q) events)
+    (sum_lost (picked q) events (numbers (u ∷ us))) (time_of t (picked q) events) (sum_times (picked q) events (numbers (u ∷ us))) (sum_slices (u ∷ us)) w.turn
+    (beside first nobody w q events t place counts at (u ∷ us) all) (own_time first nobody w q events t place counts at u us all)
+    (rounded_down w.turn (weight_of (w.nice_of t))) in
+    record {
+      share = record { at_most = share };
+      in_time = λ least most long loses. record {
+        at_most = sleeper_in_time (weight_of (w.nice_of t)) o (sum_slices (u ∷ us)) w.turn least most (sum_times (picked q) events (t ∷ numbers (u ∷ us)))
+            (time_of t (picked q) events) (sum_lost (picked q) events (numbers (u ∷ us))) (lost_by t (picked q) events) share
+            (own_lost first nobody w q events t place counts at u us all least most long loses);
+      };
+    }

@@ -14,9 +14,8 @@ use Rattle.eevdf_queue.specs.Rebase.{lowered_entry, lowered_tasks, can_rebase, r
 use Rattle.eevdf_queue.proofs.{Foremost.equal_number, LoweredMaps.get-lowered}
 use Rattle.eevdf_weight.specs.Limits.{is_in_range}
 use Rattle.eevdf_fairness.proofs.Growing.{get_here}
-use Rattle.eevdf_dozes.specs.Places.{PlacedQueue, place_by, place_of}
+use Rattle.eevdf_dozes.specs.Places.{place_by, place_of}
 use Rattle.eevdf_dozes.specs.Stretches.{Watch, NoneIsPastDue, Stays, IsChange}
-use Rattle.eevdf_dozes.specs.Dozes.{keeping, rebase_placed}
 use Rattle.eevdf_dozes.proofs.Optional.{one_entry, no_earlier}
 
 -- a runnable task stands where it stood, lower by a number, and is due no earlier
@@ -32,11 +31,11 @@ StandsStill by None now = now ≡ None
 StandsStill by (Some e) now = IsStanding by e now
 
 -- so it is of all tasks
-pub record AllStand (q r : PlacedQueue) (by : ℤ) : Type 0 where
-  pub tasks : (t : ℕ) → StandsStill by (get q.queue.runnable t) (get r.queue.runnable t)
+pub record AllStand (q r : State) (by : ℤ) : Type 0 where
+  pub tasks : (t : ℕ) → StandsStill by (get q.runnable t) (get r.runnable t)
   pub places : r.places ≡ q.places
   pub shift : r.shift ≡ q.shift +ℤ by
-  pub runs : (t : ℕ) → r.queue.running ≡ Some t → q.queue.running ≡ Some t
+  pub runs : (t : ℕ) → r.running ≡ Some t → q.running ≡ Some t
 
 same_sum : (v u by shift then : ℤ) → u +ℤ by ≡ v → then ≡ shift +ℤ by → v +ℤ shift ≡ u +ℤ then
 same_sum v u by shift then h k = omega (arith, ints, h, k)
@@ -66,7 +65,7 @@ due_stands by (Some e) now f s h here =
 later_sum : (d e by shift then : ℤ) → d ≤ℤ (e +ℤ by) → then ≡ shift +ℤ by → (d +ℤ shift) ≤ℤ (e +ℤ then)
 later_sum d e by shift then h k = omega (arith, ints, h, k)
 
-stays_by : (task : ℕ) (q r : PlacedQueue) (by : ℤ) (o : Option Entry) (e : Entry) → r.shift ≡ q.shift +ℤ by → StandsStill by o (get r.queue.runnable task)
+stays_by : (task : ℕ) (q r : State) (by : ℤ) (o : Option Entry) (e : Entry) → r.shift ≡ q.shift +ℤ by → StandsStill by o (get r.runnable task)
     → o ≡ Some e → Stays task q r e
 stays_by task q r by None e shift s here = cc
 stays_by task q r by (Some x) e shift s here =
@@ -79,22 +78,22 @@ stays_by task q r by (Some x) e shift s here =
       later = later_sum x.d s.entry.d by q.shift r.shift s.later shift;
     })
 
-pub same_place : (q r : PlacedQueue) (by : ℤ) (t : ℕ) → AllStand q r by → place_of q t ≡ place_of r t
+pub same_place : (q r : State) (by : ℤ) (t : ℕ) → AllStand q r by → place_of q t ≡ place_of r t
 same_place q r by t h =
-    place_stands q.shift r.shift by (get q.places t) (get q.queue.runnable t) (get r.queue.runnable t) (h.tasks t) h.shift
-    ∙ ap (λ (m : FinMap nat_cmp ℤ). place_by r.shift (get m t) (get r.queue.runnable t)) (sym h.places)
+    place_stands q.shift r.shift by (get q.places t) (get q.runnable t) (get r.runnable t) (h.tasks t) h.shift
+    ∙ ap (λ (m : FinMap nat_cmp ℤ). place_by r.shift (get m t) (get r.runnable t)) (sym h.places)
 
-pub due_by_standing : (q r : PlacedQueue) (by : ℤ) → AllStand q r by → NoneIsPastDue q.queue.runnable → NoneIsPastDue r.queue.runnable
+pub due_by_standing : (q r : State) (by : ℤ) → AllStand q r by → NoneIsPastDue q.runnable → NoneIsPastDue r.runnable
 due_by_standing q r by h due t f here =
-    due_stands by (get q.queue.runnable t) (get r.queue.runnable t) f (h.tasks t) (λ e there. due t e there) here
+    due_stands by (get q.runnable t) (get r.runnable t) f (h.tasks t) (λ e there. due t e there) here
 
-pub standing_is_change : (w : Watch) (q r : PlacedQueue) (by : ℤ) → AllStand q r by → IsChange w q r
+pub standing_is_change : (w : Watch) (q r : State) (by : ℤ) → AllStand q r by → IsChange w q r
 standing_is_change w q r by h = record {
-  stays = λ e here. stays_by w.stays q r by (get q.queue.runnable w.stays) e h.shift (h.tasks w.stays) here;
+  stays = λ e here. stays_by w.stays q r by (get q.runnable w.stays) e h.shift (h.tasks w.stays) here;
   places = λ t counts. no_earlier (place_of q t) (place_of r t) (same_place q r by t h);
   runner = λ t counts runs. record { ran = h.runs t runs; no_further = no_earlier (place_of r t) (place_of q t) (sym (same_place q r by t h)) };
   levels = λ levels t f counts here.
-      level_stands by (w.nice_of t) (get q.queue.runnable t) (get r.queue.runnable t) f (h.tasks t) (λ e there. levels t e counts there) here;
+      level_stands by (w.nice_of t) (get q.runnable t) (get r.runnable t) f (h.tasks t) (λ e there. levels t e counts there) here;
   due = due_by_standing q r by h;
 }
 
@@ -124,16 +123,17 @@ still : (o now : Option Entry) → now ≡ o → StandsStill (pos 0) o now
 still None now is = is
 still (Some e) now is = itself_stands e e now is refl refl (same_time e.d)
 
--- by the queue alone
 pub record AllStandThere (q r : State) : Type 0 where
   pub tasks : (t : ℕ) → StandsStill (pos 0) (get q.runnable t) (get r.runnable t)
+  pub places : r.places ≡ q.places
+  pub shift : r.shift ≡ q.shift
   pub runs : (t : ℕ) → r.running ≡ Some t → q.running ≡ Some t
 
-nobody_moves : (q : State) → AllStandThere q q
-nobody_moves q = record { tasks = λ t. still (get q.runnable t) (get q.runnable t) refl; runs = λ t runs. runs }
+pub nobody_moves : (q : State) → AllStandThere q q
+nobody_moves q = record { tasks = λ t. still (get q.runnable t) (get q.runnable t) refl; places = refl; shift = refl; runs = λ t runs. runs }
 
-all_stand : (q : PlacedQueue) (r : State) → AllStandThere q.queue r → AllStand q (keeping q r) (pos 0)
-all_stand q r h = record { tasks = h.tasks; places = refl; shift = same_shift q.shift; runs = h.runs }
+pub all_stand : (q : State) (r : State) → AllStandThere q r → AllStand q r (pos 0)
+all_stand q r h = record { tasks = h.tasks; places = h.places; shift = h.shift ∙ same_shift q.shift; runs = h.runs }
 
 -- another entry of a task, at the same place
 stand_by : (tasks : Tasks) (task t : ℕ) (e f : Entry) (b : Bool) → eq_by_cmp nat_cmp t task ≡ b → get tasks task ≡ Some e → f.nice ≡ e.nice → f.v ≡ e.v
@@ -151,6 +151,8 @@ with_entry : (q : State) (task : ℕ) (e f : Entry) → get q.runnable task ≡ 
     → AllStandThere q (record q { runnable = insert q.runnable task f })
 with_entry q task e f here nice place later = record {
   tasks = λ t. stand_by q.runnable task t e f (eq_by_cmp nat_cmp t task) refl here nice place later;
+  places = refl;
+  shift = refl;
   runs = λ t runs. runs;
 }
 
@@ -171,26 +173,26 @@ yield_by : (q : State) (o : Option ℕ) → AllStandThere q (yield_running q o).
 yield_by q None = nobody_moves q
 yield_by q (Some task) = yield_entry_by q task (get q.runnable task) refl
 
-pub yields_stand : (q : PlacedQueue) → AllStand q (keeping q (yield_now q.queue).1) (pos 0)
-yields_stand q = all_stand q (yield_now q.queue).1 (yield_by q.queue q.queue.running)
+pub yields_stand : (q : State) → AllStand q (yield_now q).1 (pos 0)
+yields_stand q = all_stand q (yield_now q).1 (yield_by q q.running)
 
 -- ---- another slice
 sleeper_by : (q : State) (task slice : ℕ) (o : Option Sleeper) → AllStandThere q (set_sleeper_slice q task slice o)
 sleeper_by q task slice None = nobody_moves q
-sleeper_by q task slice (Some s) = record { tasks = λ t. still (get q.runnable t) (get q.runnable t) refl; runs = λ t runs. runs }
+sleeper_by q task slice (Some s) = record { tasks = λ t. still (get q.runnable t) (get q.runnable t) refl; places = refl; shift = refl; runs = λ t runs. runs }
 
 slice_by : (q : State) (task slice : ℕ) (o : Option Entry) → get q.runnable task ≡ o → AllStandThere q (set_entry_slice q task slice o)
 slice_by q task slice None here = sleeper_by q task slice (get q.asleep task)
 slice_by q task slice (Some e) here = with_entry q task e (record e { slice = slice }) here refl refl (same_time e.d)
 
-pub slices_stand : (q : PlacedQueue) (task slice : ℕ) → AllStand q (keeping q (set_slice q.queue task slice)) (pos 0)
-slices_stand q task slice = all_stand q (set_slice q.queue task slice) (slice_by q.queue task slice (get q.queue.runnable task) refl)
+pub slices_stand : (q : State) (task slice : ℕ) → AllStand q (set_slice q task slice) (pos 0)
+slices_stand q task slice = all_stand q (set_slice q task slice) (slice_by q task slice (get q.runnable task) refl)
 
 -- ---- a stop
-pub stops_stand : (q : PlacedQueue) → AllStand q (keeping q (nobody_runs q.queue)) (pos 0)
+pub stops_stand : (q : State) → AllStand q (nobody_runs q) (pos 0)
 stops_stand q =
-    all_stand q (nobody_runs q.queue)
-    (record { tasks = λ t. still (get q.queue.runnable t) (get q.queue.runnable t) refl; runs = λ t runs. cc })
+    all_stand q (nobody_runs q)
+    (record { tasks = λ t. still (get q.runnable t) (get q.runnable t) refl; places = refl; shift = refl; runs = λ t runs. cc })
 
 -- ---- a rebase
 down_and_up : (v by : ℤ) → (v -ℤ by) +ℤ by ≡ v
@@ -204,25 +206,15 @@ lowered_stands by None now is = is
 lowered_stands by (Some e) now is =
     record { entry = lowered_entry by e; here = is; same_nice = refl; same_place = down_and_up e.v by; later = due_as_before e.d by }
 
-rebased_by : (q : PlacedQueue) (b : Bool)
-    → AllStand q (record q {
-      queue = (cond {A = ℤ × State} b (virtual_time q.queue, rebased q.queue) (pos 0, q.queue)).1;
-      shift = q.shift +ℤ (cond {A = ℤ × State} b (virtual_time q.queue, rebased q.queue) (pos 0, q.queue)).0;
-    }) (cond {A = ℤ × State} b (virtual_time q.queue, rebased q.queue) (pos 0, q.queue)).0
+rebased_by : (q : State) (b : Bool)
+    → AllStand q (cond {A = ℤ × State} b (virtual_time q, rebased q) (pos 0, q)).1 (cond {A = ℤ × State} b (virtual_time q, rebased q) (pos 0, q)).0
 rebased_by q true = record {
-  tasks = λ t.
-      lowered_stands (virtual_time q.queue) (get q.queue.runnable t) (get (lowered_tasks (virtual_time q.queue) q.queue.runnable) t)
-      (get-lowered (virtual_time q.queue) q.queue.runnable t);
+  tasks = λ t. lowered_stands (virtual_time q) (get q.runnable t) (get (lowered_tasks (virtual_time q) q.runnable) t) (get-lowered (virtual_time q) q.runnable t);
   places = refl;
   shift = refl;
   runs = λ t runs. runs;
 }
-rebased_by q false = record {
-  tasks = λ t. still (get q.queue.runnable t) (get q.queue.runnable t) refl;
-  places = refl;
-  shift = refl;
-  runs = λ t runs. runs;
-}
+rebased_by q false = all_stand q q (nobody_moves q)
 
-pub rebases_stand : (q : PlacedQueue) → AllStand q (rebase_placed q) (rebase q.queue).0
-rebases_stand q = rebased_by q (can_rebase q.queue)
+pub rebases_stand : (q : State) → AllStand q (rebase q).1 (rebase q).0
+rebases_stand q = rebased_by q (can_rebase q)

@@ -10,8 +10,9 @@ use Rattle.eevdf_queue.specs.declared.answers.TickAnswer.TheVariants.{Charged, I
 use Rattle.eevdf_queue.specs.{Moves.fresh_entry, Moves.is_entry_in_range}
 use Rattle.eevdf_queue.specs.Tick.{aged, is_used_up, charged, tick, tick_entry, tick_running}
 use Rattle.eevdf_fairness.specs.Tallies.{if_charged_to}
+use Rattle.eevdf_queue.proofs.DueTasks.{charged_due}
 use Rattle.eevdf_fairness.proofs.Growing.{get_here, found_at_after, charged_grown, rounded_down}
-use Rattle.eevdf_dozes.specs.Places.{PlacedQueue, place_by, place_of}
+use Rattle.eevdf_dozes.specs.Places.{place_by, place_of}
 use Rattle.eevdf_dozes.specs.Stretches.{Watch, HaveLevels, NoneIsPastDue, ticked, charge_by, charged_for}
 
 -- ---- a tick is refused, or there is nobody to charge, or it charges who runs
@@ -52,17 +53,6 @@ charged_runtime e ns =
     by true = refl
     by false = refl
 
--- who is charged isn't past the deadline that it then has
-charged_due : (e : Entry) (ns : ℕ) → (charged e ns).v ≤ℤ (charged e ns).d
-charged_due e ns =
-    by (is_used_up e ns) refl
-  where
-    by : (b : Bool) → is_used_up e ns ≡ b
-        → (cond b (fresh_entry (aged e ns) e.nice e.slice) (record e { v = aged e ns })).v
-        ≤ℤ (cond b (fresh_entry (aged e ns) e.nice e.slice) (record e { v = aged e ns })).d
-    by true is = omega (arith, ints)
-    by false is = omega (arith, ints, is)
-
 -- ---- where a task stands
 unmoved : (o : Option ℤ) → o ≡ option_map (λ (z : ℤ). z +ℤ pos 0) o
 unmoved None = refl
@@ -91,14 +81,14 @@ moved_by shift kept tasks p t e ns false is here =
     ap (place_by shift kept) (other_entry tasks p t (charged e ns) is) ∙ unmoved (place_by shift kept (get tasks t))
 
 -- a tick moves each task by what it charges for
-pub tick_moves : (q : PlacedQueue) (t ns : ℕ)
-    → place_of (ticked q ns) t ≡ option_map (λ (z : ℤ). z +ℤ pos (charged_for t q.queue ns)) (place_of q t)
+pub tick_moves : (q : State) (t ns : ℕ)
+    → place_of (ticked q ns) t ≡ option_map (λ (z : ℤ). z +ℤ pos (charged_for t q ns)) (place_of q t)
 tick_moves q t ns =
     tick_cases
-    (λ z. place_by q.shift (get q.places t) (get (z.1).runnable t)
-    ≡ option_map (λ (y : ℤ). y +ℤ pos (if_charged_to t (z.0) (charge_by (get q.queue.runnable t) ns))) (place_of q t))
-    q.queue ns (unmoved (place_of q t)) (unmoved (place_of q t))
-    (λ p e resched runs here. moved_by q.shift (get q.places t) q.queue.runnable p t e ns (p == t) refl here)
+    (λ z. place_of (z.1) t
+    ≡ option_map (λ (y : ℤ). y +ℤ pos (if_charged_to t (z.0) (charge_by (get q.runnable t) ns))) (place_of q t))
+    q ns (unmoved (place_of q t)) (unmoved (place_of q t))
+    (λ p e resched runs here. moved_by q.shift (get q.places t) q.runnable p t e ns (p == t) refl here)
 
 -- ---- who runs
 pub tick_running_stays : (q : State) (ns : ℕ) → (tick q ns).1.running ≡ q.running

@@ -7,7 +7,6 @@ use Rattle.eevdf_weight.specs.{Weight.weight_of, Charge.charge_of}
 use Rattle.eevdf_weight.proofs.Weighing.{weight_of-least}
 use Rattle.eevdf_queue.specs.{declared.entry.Entry.Entry, State.State, Tick.tick}
 use Rattle.eevdf_fairness.specs.{Share.most_lost, Tallies.if_charged_to, Tallies.remainder_of}
-use Rattle.eevdf_dozes.specs.Places.{PlacedQueue}
 use Rattle.eevdf_dozes.specs.Stretches.{Event, Picks, Ticks, Becomes, Watch, HaveLevels, IsWatched, IsStretch, picked, ticked, charge_by, charged_for, charges}
 use Rattle.eevdf_dozes.specs.Shares.{time_of, lost_by, HaveNoShorterTicks, LosesNoMore}
 use Rattle.eevdf_dozes.proofs.Ticking.{equal, tick_cases}
@@ -71,14 +70,14 @@ module _ (w : Watch) (t : ℕ) (counts : w.counts t ≡ true) where
       (λ z. weight * if_charged_to t (z.0) (charge_by (get q.runnable t) ns) + if_charged_to t (z.0) (remainder_of (get q.runnable t) ns) ≡ 1024 * if_charged_to t (z.0) ns)
       q ns (nothing weight) (nothing weight) (λ p e resched runs here. one_by q p ns e (p == t) levels refl here)
 
-  pub whole_time : (ran : ℕ) (q : PlacedQueue) (events : List Event) → IsWatched w q → IsStretch w ran q events
+  pub whole_time : (ran : ℕ) (q : State) (events : List Event) → IsWatched w q → IsStretch w ran q events
       → weight * charges t q events + lost_by t q events ≡ 1024 * time_of t q events
   whole_time ran q [] watched h = nothing weight
   whole_time ran q (Picks ∷ events) watched h = whole_time 0 (picked q) events (pick_watched w q watched) h
   whole_time ran q (Ticks ns ∷ events) watched h =
-      added weight (charged_for t q.queue ns) (charges t (ticked q ns) events) (if_charged_to t (tick q.queue ns).0 (remainder_of (get q.queue.runnable t) ns))
-      (lost_by t (ticked q ns) events) (if_charged_to t (tick q.queue ns).0 ns) (time_of t (ticked q ns) events)
-      (one_tick q.queue ns watched.levels) (whole_time (ran + ns) (ticked q ns) events (tick_watched w ns q watched) h.1)
+      added weight (charged_for t q ns) (charges t (ticked q ns) events) (if_charged_to t (tick q ns).0 (remainder_of (get q.runnable t) ns))
+      (lost_by t (ticked q ns) events) (if_charged_to t (tick q ns).0 ns) (time_of t (ticked q ns) events)
+      (one_tick q ns watched.levels) (whole_time (ran + ns) (ticked q ns) events (tick_watched w ns q watched) h.1)
   whole_time ran q (Becomes r ∷ events) watched h = whole_time ran r events (change_watched w q r h.0 watched) h.1
 
   -- ---- what rounding takes, where ticks aren't short
@@ -102,13 +101,13 @@ module _ (w : Watch) (t : ℕ) (counts : w.counts t ≡ true) where
       tick_cases (λ z. least * if_charged_to t (z.0) (remainder_of (get q.runnable t) ns) ≤ most * if_charged_to t (z.0) ns) q ns
       (none_lost least most) (none_lost least most) (λ p e resched runs here. lost_one q p ns least most (p == t) levels long loses)
 
-  pub little_lost : (ran least most : ℕ) (q : PlacedQueue) (events : List Event) → IsWatched w q → IsStretch w ran q events
+  pub little_lost : (ran least most : ℕ) (q : State) (events : List Event) → IsWatched w q → IsStretch w ran q events
       → HaveNoShorterTicks least events → LosesNoMore most w t → least * lost_by t q events ≤ most * time_of t q events
   little_lost ran least most q [] watched h long loses = none_lost least most
   little_lost ran least most q (Picks ∷ events) watched h long loses = little_lost 0 least most (picked q) events (pick_watched w q watched) h long loses
   little_lost ran least most q (Ticks ns ∷ events) watched h long loses =
-      lost_more least most (if_charged_to t (tick q.queue ns).0 (remainder_of (get q.queue.runnable t) ns)) (lost_by t (ticked q ns) events)
-      (if_charged_to t (tick q.queue ns).0 ns) (time_of t (ticked q ns) events) (lost_tick q.queue ns least most watched.levels long.0 loses)
+      lost_more least most (if_charged_to t (tick q ns).0 (remainder_of (get q.runnable t) ns)) (lost_by t (ticked q ns) events)
+      (if_charged_to t (tick q ns).0 ns) (time_of t (ticked q ns) events) (lost_tick q ns least most watched.levels long.0 loses)
       (little_lost (ran + ns) least most (ticked q ns) events (tick_watched w ns q watched) h.1 long.1 loses)
   little_lost ran least most q (Becomes r ∷ events) watched h long loses =
       little_lost ran least most r events (change_watched w q r h.0 watched) h.1 long loses

@@ -2,8 +2,15 @@ pub mod Places
 pub mod Stretches
 pub mod Gains
 pub mod Punctual
-pub mod Dozes
 pub mod Calls
 pub mod Histories
 pub mod Shares
 pub mod PlacesOfSleepers
+pub mod Bounds
+pub mod Ahead
+pub mod Apart
+pub mod OneCpu
+pub mod OneCpuStretches
+pub mod OneCpuShares
+pub mod OneCpuLater
+pub mod OneCpuHistories

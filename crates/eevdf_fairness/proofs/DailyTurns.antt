@@ -1,6 +1,7 @@
 -- The deeds of days on one queue: none is out of range.
-use Rattle.std.proofs.Common.{◌≡◌, ℕ, ◌+◌, ◌≤◌, List, [], ◌∷◌, ◌++◌, append_assoc, Option, Some, None, refl, sym, ap, ◌∙◌, subst, arith}
+use Rattle.std.proofs.Common.{◌≡◌, ℕ, suc, ◌+◌, ◌^◌, ◌≤◌, List, [], ◌∷◌, ◌++◌, length, append_assoc, Option, Some, None, refl, sym, ap, ◌∙◌, subst, arith}
 use Rattle.std.specs.Prelude.{ℤ}
+use Rattle.std.specs.List.{AllByRecursion}
 use Rattle.std.proofs.lemmas.List.{append-nil}
 use Rattle.eevdf_queue.specs.{State.State, Pick.pick_of, Pick.after_pick, Tick.tick, Rebase.rebase, declared.answers.TickAnswer.TickAnswer}
 use Rattle.eevdf_queue.specs.declared.answers.TickAnswer.TheVariants as ticks
@@ -34,9 +35,22 @@ day_more : (q : State) (days : List (List Turn)) (day : List Turn) → after_day
 day_more q [] day = refl
 day_more q (d ∷ days) day = day_more ((rebase (after_turns q d)).1) days day
 
-are_days_more : (days : List (List Turn)) (day : List Turn) → AreDays days → IsDay day → AreDays (days ++ day ∷ [])
+are_days_more : (days : List (List Turn)) (day : List Turn) → AllByRecursion IsDay days → IsDay day → AllByRecursion IsDay (days ++ day ∷ [])
 are_days_more [] day h d = (d, tt)
 are_days_more (first ∷ days) day h d = (h.0, are_days_more days day h.1 d)
+
+one_longer : (days : List (List Turn)) (day : List Turn) → length (days ++ day ∷ []) ≡ suc (length days)
+one_longer [] day = refl
+one_longer (first ∷ days) day = ap suc (one_longer days day)
+
+no_more : (a b n : ℕ) → a + b ≤ n → a ≤ n
+no_more a b n h = omega (arith, h)
+
+none_before : (a n : ℕ) → a ≤ n → 0 + a ≤ n
+none_before a n h = omega (arith, h)
+
+moved_over : (a b c n : ℕ) → c ≡ suc a → a + suc b ≤ n → c + b ≤ n
+moved_over a b c n is h = omega (arith, is, h)
 
 -- ---- a part of a day is one
 length_more : (now rest : Turn) → turn_length (now ++ rest) ≡ turn_length now + turn_length rest
@@ -127,18 +141,21 @@ module _ (law : DaysStayInRange) (cpu : ℕ) (start : State) (time : ℤ) (near 
       )
 
   -- days, of which some are done, and then a part of one
-  days_fine : (before days : List (List Turn)) (today : List Turn) → AreDays before → AreDays days → IsDay today
-      → AreFine (days_on cpu days ++ turns_on cpu today) (after_days start before)
-  days_fine before [] today these more day =
-      subst (λ (ds : List Deed). AreFine ds (after_days start before)) (append-nil (turns_on cpu today)) (turns_fine before [] today [] these day tt)
-  days_fine before (first ∷ days) today these more day =
+  days_fine : (before days : List (List Turn)) (today : List Turn) → AllByRecursion IsDay before → AllByRecursion IsDay days → length before + length days ≤ 2 ^ 58
+      → IsDay today → AreFine (days_on cpu days ++ turns_on cpu today) (after_days start before)
+  days_fine before [] today these more few day =
+      subst (λ (ds : List Deed). AreFine ds (after_days start before)) (append-nil (turns_on cpu today))
+      (turns_fine before [] today [] (record { each = these; few = no_more (length before) 0 (2 ^ 58) few }) day tt)
+  days_fine before (first ∷ days) today these more few day =
       let q : State = after_turns (after_days start before) first in
       subst (λ (ds : List Deed). AreFine ds (after_days start before)) (sym (append_assoc (turns_on cpu first) (Rebase cpu ∷ days_on cpu days) (turns_on cpu today)))
-      (turns_fine before [] first (Rebase cpu ∷ (days_on cpu days ++ turns_on cpu today)) these more.0 (
+      (turns_fine before [] first (Rebase cpu ∷ (days_on cpu days ++ turns_on cpu today))
+      (record { each = these; few = no_more (length before) (suc (length days)) (2 ^ 58) few }) more.0 (
         rebase_told q,
         subst (AreFine (days_on cpu days ++ turns_on cpu today)) (day_more start before first)
-            (days_fine (before ++ first ∷ []) days today (are_days_more before first these more.0) more.1 day),
+            (days_fine (before ++ first ∷ []) days today (are_days_more before first these more.0) more.1
+            (moved_over (length before) (length days) (length (before ++ first ∷ [])) (2 ^ 58) (one_longer before first) few) day),
       ))
 
   pub all_fine : (days : List (List Turn)) (today : List Turn) → AreDays days → IsDay today → AreFine (days_on cpu days ++ turns_on cpu today) start
-  all_fine days today these day = days_fine [] days today tt these day
+  all_fine days today these day = days_fine [] days today tt these.each (none_before (length days) (2 ^ 58) these.few) day

@@ -1,10 +1,10 @@
 -- With a rebase each day no tick is out of range.
-use Rattle.std.proofs.Common.{◌≡◌, ℕ, ◌+◌, ◌-◌, ◌*◌, ◌^◌, ◌≤◌, Bool, true, false, ◌&&◌, cond, List, [], ◌∷◌, Option, Some, None, refl, sym, ap, ◌∙◌, subst, arith}
+use Rattle.std.proofs.Common.{◌≡◌, ℕ, suc, ◌==◌, ◌+◌, ◌-◌, ◌*◌, ◌^◌, ◌≤◌, Bool, true, false, ◌&&◌, cond, List, [], ◌∷◌, length, Option, Some, None, refl, sym, ap, ◌∙◌, subst, arith}
 use Rattle.std.specs.Prelude.{ℤ, pos, ◌+ℤ◌, ◌-ℤ◌, ◌*ℤ◌, ◌≤ℤ◌, ◌<ℤ◌, int_le, is_some, unsigned_abs}
-use Rattle.std.specs.{FinMap.get, FinMap.insert, FinMap.empty, FinMap.entries, FinMap.len}
+use Rattle.std.specs.{List.AllByRecursion, FinMap.get, FinMap.insert, FinMap.empty, FinMap.entries, FinMap.len}
 use Rattle.std.proofs.lemmas.{Int.ints, Int.unsigned_abs-mul, Bool.Decides.nat_tests}
 use Rattle.std.proofs.Math.Nat.{mul-le-mul_left, mul-le-mul_right}
-use Rattle.eevdf_weight.specs.{Weight.weight_of, Charge.charge_of, Placement.floor_div}
+use Rattle.eevdf_weight.specs.{Limits.is_in_range, Weight.weight_of, Charge.charge_of, Placement.floor_div}
 use Rattle.eevdf_weight.proofs.Weighing.{weight_of-least}
 use Rattle.eevdf_queue.specs.{declared.entry.Entry.Entry, declared.answers.TickAnswer.TickAnswer, State.State, Moves.request_of, Moves.fresh_entry, Moves.is_entry_in_range}
 use Rattle.eevdf_queue.specs.declared.answers.TickAnswer.TheVariants.{Charged, Range}
@@ -12,18 +12,18 @@ use Rattle.eevdf_queue.specs.{Laws.PickIsFirst, Laws.PickOfNobody}
 use Rattle.eevdf_queue.specs.Sums.{Tasks, total_weight, total_moment, virtual_time}
 use Rattle.eevdf_queue.specs.Pick.{IsPick, pick_of, picked_by}
 use Rattle.eevdf_queue.specs.Tick.{aged, is_used_up, charged, tick_to, tick_entry, tick_running}
-use Rattle.eevdf_queue.specs.Rebase.{lowered_entry, lowered_entries, are_entries_in_range, can_rebase, rebased, rebase}
+use Rattle.eevdf_queue.specs.Rebase.{lowered_entry, lowered_entries, are_entries_in_range, is_shift, can_lower, can_rebase, rebased, rebase}
 use Rattle.eevdf_queue.specs.LoweredQueues.{AnswerAlike, LoweredQueueAnswersAlike, RebasedIsLower}
 use Rattle.eevdf_queue.proofs.{Bounds.charge_of_small, Floors.not_above, Floors.below_next, Scaled.sum_scaled, Scaled.difference_scaled, Scaled.scaled_le}
 use Rattle.eevdf_fairness.specs.Turns.{Turn, turn_length, AreNoLonger, after_ticks, after_turn, after_turns}
 use Rattle.eevdf_fairness.specs.Fair.{turns_of_others, weight_of_others}
-use Rattle.eevdf_fairness.specs.Days.{total_length, IsDay, AreDays, after_days, IsNearStart, DaysStayInRange}
+use Rattle.eevdf_fairness.specs.Days.{total_length, IsDay, after_days, IsNearStart, DaysStayInRange}
 use Rattle.eevdf_fairness.proofs.EntrySums.{Each, each, no_heavier}
 use Rattle.eevdf_fairness.proofs.{Growing.HasRun, Growing.has_run, Growing.found_after, Owed.owed, Passing.turns_passed}
 use Rattle.eevdf_fairness.proofs.Rules.{IsWithin, settled, Everyone, After, Short, keeps_after, keeps_short, at_one_time, IsLittleAhead, fresh_within}
 use Rattle.eevdf_fairness.proofs.Inequalities.{not_zero}
 use Rattle.eevdf_fairness.proofs.Falling.{found_lower, front_down, short_down, lowered_within, lower_rule_of, falls_after, falls_short}
-use Rattle.eevdf_fairness.proofs.{Turning.moment_after, Steps.idle, Steps.turns_within, Bounds.itself}
+use Rattle.eevdf_fairness.proofs.{RestOfQueue.KeepsRest, RestOfQueue.turns_rest, Turning.moment_after, Steps.idle, Steps.turns_within, Bounds.itself}
 
 abbrev second : ℕ
 second = 1000000000
@@ -256,11 +256,11 @@ module _ (alike : LoweredQueueAnswersAlike) (lower : RebasedIsLower) (q : State)
       (request_small (2 ^ 59) front q.runnable c t e here) v in
       in_range_of (lowered_entry (virtual_time q) e) (below (unsigned_abs (e.v -ℤ virtual_time q)) (2 ^ 51) v (omega arith)) (below (unsigned_abs (e.d -ℤ virtual_time q)) (2 ^ 51 + 2 ^ 40) d (omega arith))
 
-  calm_can : can_rebase q ≡ true
-  calm_can = all_in_range (virtual_time q) (entries q.runnable) (each (λ e. is_entry_in_range (lowered_entry (virtual_time q) e) ≡ true) q.runnable lower_in_range)
+  calm_can : is_shift (q.shift +ℤ virtual_time q) ≡ true → can_rebase q ≡ true
+  calm_can fits = ap (λ (b : Bool). b && can_lower (virtual_time q) q.runnable) fits ∙ all_in_range (virtual_time q) (entries q.runnable) (each (λ e. is_entry_in_range (lowered_entry (virtual_time q) e) ≡ true) q.runnable lower_in_range)
 
-  rebase_is : (rebase q).1 ≡ rebased q
-  rebase_is = ap (λ (b : Bool). (cond {A = ℤ × State} b (virtual_time q, rebased q) (pos 0, q)).1) calm_can
+  rebase_is : is_shift (q.shift +ℤ virtual_time q) ≡ true → (rebase q).1 ≡ rebased q
+  rebase_is fits = ap (λ (b : Bool). (cond {A = ℤ × State} b (virtual_time q, rebased q) (pos 0, q)).1) (calm_can fits)
 
   answers : AnswerAlike (virtual_time q) q (rebased q)
   answers = alike (virtual_time q) q (rebased q) (lower q)
@@ -287,7 +287,7 @@ module _ (alike : LoweredQueueAnswersAlike) (lower : RebasedIsLower) (q : State)
         (answers.moment ∙ ap (λ (z : ℤ). total_moment q.runnable -ℤ (z *ℤ pos (total_weight q.runnable))) (mean_is q some)));
   }
 
--- ---- days
+-- ---- the start
 fresh_mean : (v S : ℤ) (W : ℕ) → unsigned_abs v ≤ 2 ^ 58 → S ≡ v *ℤ pos W → unsigned_abs S ≤ 2 ^ 58 * W
 fresh_mean v S W h e = let k : unsigned_abs (v *ℤ pos W) ≤ 2 ^ 58 * W = omega (arith, unsigned_abs-mul v (pos W), mul-le-mul_right W h) in rw e k
 
@@ -300,30 +300,97 @@ start_calm v q s = record {
       (at_one_time v (entries q.runnable) (each (λ e. e.v ≡ v) q.runnable (λ t e here. ap (λ (x : Entry). x.v) (s.fresh t e here))));
 }
 
-record IsCalmDay (q : State) : Type 0 where
+-- ---- the shift
+small_by : (S time : ℤ) (W : ℕ) → 1 ≤ W → unsigned_abs S ≤ 2 ^ 59 * W → (time *ℤ pos W) ≤ℤ S → S <ℤ ((time *ℤ pos W) +ℤ pos W) → unsigned_abs time ≤ 2 ^ 60
+small_by S time W some h l m =
+    let low : pos 0 ≤ℤ (time +ℤ pos (2 ^ 59 + 1)) =
+    cancel (pos 0) (time +ℤ pos (2 ^ 59 + 1)) W some (omega (arith, ints, h, m, sum_scaled time (pos (2 ^ 59 + 1)) W)) in
+    let high : time ≤ℤ pos (2 ^ 59) = cancel time (pos (2 ^ 59)) W some (omega (arith, ints, h, l)) in
+    omega (arith, ints, low, high)
+
+someone : (n : ℕ) → (n == 0) ≡ false → 1 ≤ n
+someone n is = grind (arith, nat_tests)
+
+time_small : (q : State) (front : ℤ) → IsCalm (2 ^ 59) front q.runnable → unsigned_abs q.base ≤ 2 ^ 60 → unsigned_abs (virtual_time q) ≤ 2 ^ 60
+time_small q front c base = by (total_weight q.runnable == 0) refl
+  where
+    by : (b : Bool) → (total_weight q.runnable == 0) ≡ b → unsigned_abs (cond b q.base (floor_div (total_moment q.runnable) (total_weight q.runnable))) ≤ 2 ^ 60
+    by true is = base
+    by false is =
+        let some : 1 ≤ total_weight q.runnable = someone (total_weight q.runnable) is in
+        small_by (total_moment q.runnable) (floor_div (total_moment q.runnable) (total_weight q.runnable)) (total_weight q.runnable) some (c.mean some)
+        (not_above (total_moment q.runnable) (total_weight q.runnable) some) (below_next (total_moment q.runnable) (total_weight q.runnable) some)
+
+fits : (shift time : ℤ) (days : ℕ) → unsigned_abs shift + (days + 1) * 2 ^ 60 ≤ 2 ^ 120 → unsigned_abs time ≤ 2 ^ 60 → is_shift (shift +ℤ time) ≡ true
+fits shift time days room small =
+    let below : unsigned_abs (shift +ℤ time) ≤ 2 ^ 120 = omega (arith, ints, room, small) in grind (arith, nat_tests)
+
+room_after : (shift time : ℤ) (days : ℕ) → unsigned_abs shift + (suc days + 1) * 2 ^ 60 ≤ 2 ^ 120 → unsigned_abs time ≤ 2 ^ 60
+    → unsigned_abs (shift +ℤ time) + (days + 1) * 2 ^ 60 ≤ 2 ^ 120
+room_after shift time days room small = omega (arith, ints, room, small)
+
+room_before : (shift : ℤ) (days : ℕ) → unsigned_abs shift ≤ 2 ^ 119 → days ≤ 2 ^ 58 → unsigned_abs shift + (days + 1) * 2 ^ 60 ≤ 2 ^ 120
+room_before shift days small few = omega (arith, small, few)
+
+in_range_is : (z : ℤ) → is_in_range z ≡ true → unsigned_abs z ≤ 2 ^ 60
+in_range_is z is = grind (arith, nat_tests)
+
+-- ---- days
+-- a morning of a day that is followed by so many days, each of which ends with a rebase
+record IsCalmDay (days : ℕ) (q : State) : Type 0 where
   front : ℤ
   calm : IsCalm (2 ^ 58) front q.runnable
+  base : unsigned_abs q.base ≤ 2 ^ 60
+  room : unsigned_abs q.shift + (days + 1) * 2 ^ 60 ≤ 2 ^ 120
 
 module _ (first : PickIsFirst) (nobody : PickOfNobody) (alike : LoweredQueueAnswersAlike) (lower : RebasedIsLower) where
-  next_day : (q : State) (day : List Turn) → IsDay day → IsCalmDay q → IsCalmDay ((rebase (after_turns q day)).1)
-  next_day q day d c =
-      let evening = day_calm first nobody c.front q day d c.calm in
-      let s : State = after_turns q day in
+  -- the evening of a day
+  record IsEvening (days : ℕ) (q : State) : Type 0 where
+    front : ℤ
+    calm : IsCalm (2 ^ 59) front q.runnable
+    time : unsigned_abs (virtual_time q) ≤ 2 ^ 60
+    room : unsigned_abs q.shift + (days + 1) * 2 ^ 60 ≤ 2 ^ 120
+
+  evening : (days : ℕ) (q : State) (day : List Turn) → IsDay day → IsCalmDay days q → IsEvening days (after_turns q day)
+  evening days q day d c =
+      let rest : KeepsRest q (after_turns q day) = turns_rest q day in
+      let calm : IsCalm (2 ^ 59) c.front (after_turns q day).runnable = day_calm first nobody c.front q day d c.calm in
       record {
-        front = c.front -ℤ virtual_time s;
-        calm = subst (λ (r : State). IsCalm (2 ^ 58) (c.front -ℤ virtual_time s) r.runnable) (sym (rebase_is alike lower s c.front evening)) (rebased_calm alike lower s c.front evening);
+        front = c.front;
+        calm = calm;
+        time = time_small (after_turns q day) c.front calm (subst (λ (z : ℤ). unsigned_abs z ≤ 2 ^ 60) (sym rest.base) c.base);
+        room = subst (λ (z : ℤ). unsigned_abs z + (days + 1) * 2 ^ 60 ≤ 2 ^ 120) (sym rest.shift) c.room;
       }
 
-  days_calm : (q : State) (days : List (List Turn)) → AreDays days → IsCalmDay q → IsCalmDay (after_days q days)
+  evening_fits : (days : ℕ) (s : State) → IsEvening days s → is_shift (s.shift +ℤ virtual_time s) ≡ true
+  evening_fits days s e = fits s.shift (virtual_time s) days e.room e.time
+
+  next_day : (days : ℕ) (q : State) (day : List Turn) → IsDay day → IsCalmDay (suc days) q → IsCalmDay days ((rebase (after_turns q day)).1)
+  next_day days q day d c =
+      let s : State = after_turns q day in
+      let e : IsEvening (suc days) s = evening (suc days) q day d c in
+      subst (IsCalmDay days) (sym (rebase_is alike lower s e.front e.calm (evening_fits (suc days) s e))) (record {
+        front = e.front -ℤ virtual_time s;
+        calm = rebased_calm alike lower s e.front e.calm;
+        base = omega arith;
+        room = room_after s.shift (virtual_time s) days e.room e.time;
+      })
+
+  days_calm : (q : State) (days : List (List Turn)) → AllByRecursion IsDay days → IsCalmDay (length days) q → IsCalmDay 0 (after_days q days)
   days_calm q [] h c = c
-  days_calm q (day ∷ days) h c = days_calm ((rebase (after_turns q day)).1) days h.1 (next_day q day h.0 c)
+  days_calm q (day ∷ days) h c = days_calm ((rebase (after_turns q day)).1) days h.1 (next_day (length days) q day h.0 c)
 
   pub days_stay_in_range : DaysStayInRange
   days_stay_in_range q v days turns s h d =
-      let morning = days_calm q days h (record { front = v; calm = start_calm v q s }) in
-      let now = day_calm first nobody morning.front (after_days q days) turns d morning.calm in
+      let begun : IsCalmDay (length days) q = record {
+        front = v;
+        calm = start_calm v q s;
+        base = in_range_is q.base s.based;
+        room = room_before q.shift (length days) s.shift h.few;
+      } in
       let r : State = after_turns (after_days q days) turns in
+      let now : IsEvening 0 r = evening 0 (after_days q days) turns d (days_calm q days h.each begun) in
       record {
-        ticks = λ ns short. runner_by r morning.front now ns short r.running;
-        rebases = calm_can alike lower r morning.front now;
+        ticks = λ ns short. runner_by r now.front now.calm ns short r.running;
+        rebases = calm_can alike lower r now.front now.calm (evening_fits 0 r now);
       }

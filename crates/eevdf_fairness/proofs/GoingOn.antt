@@ -16,8 +16,8 @@ use Rattle.eevdf_queue.proofs.Foremost.{equal_number}
 use Rattle.eevdf_ops.proofs.MapCounts.{itself}
 use Rattle.eevdf_fairness.specs.{Turns.Turn, Turns.turn_length, Turns.after_ticks, Leavings.HaveSameRunnable, Fair.turns_of_others, Joining.lag_limit, OneCpuJoins.reach_past}
 use Rattle.eevdf_fairness.proofs.{Growing.HasRun, Growing.has_run, Growing.found_at_after, Inequalities.le_then, Falling.IsLowerRule, Falling.rebase_within}
-use Rattle.eevdf_fairness.proofs.{Rules.Rule, Rules.IsWithin, Rules.Keeps, Steps.turn_by, Steps.leave_by, Rules.NoneIsPastBy, Rules.Nothing, Rules.keeps_nothing, Joining.joiner, Joining.near_joiner, AfterJoin.near_by}
-use Rattle.eevdf_fairness.proofs.{LeavingDeeds.alike, LeavingDeeds.then, LeavingDeeds.all_ticked, LeavingLater.leaves_later, LeavingLater.get_apart, LeavingLater.nobody_ticks}
+use Rattle.eevdf_fairness.proofs.{Rules.Rule, Rules.IsWithin, Rules.Keeps, Steps.turn_by, Steps.leave_by, Rules.NoneIsPastBy, Rules.Nothing, Rules.keeps_nothing, Joining.joiner_past, Joining.near_joiner, AfterJoin.near_by}
+use Rattle.eevdf_fairness.proofs.{SameRunnable.alike, SameRunnable.then, SameRunnable.all_ticked, LeavingLater.leaves_later, LeavingLater.get_apart, LeavingLater.nobody_ticks}
 use Rattle.eevdf_fairness.proofs.{LeavingLater.absent_ticks, LeavingLater.ticks_there, Joiners.Joiner, Joiners.IsOther, Joiners.beyond_turns, Joiners.joined, Joiners.joined_within, Joiners.late_beyond}
 
 -- ---- a task that leaves before ticks may as well leave after them
@@ -175,37 +175,41 @@ no_entry tasks task t e none here same =
     let nothing : get tasks t ≡ None = ap (get tasks) same ∙ none in
     cc
 
--- a task joins others, with a lag within its limit; its next request may be of another slice
-module _ (ns : ℕ) (front : ℤ) (Kept : ℕ → Entry → Type 0) (keeps : Keeps Kept) (js : List Joiner) (q r : State) (task : ℕ) (s : Sleeper) (next : ℕ)
+further : (v d : ℤ) (x past : ℕ) → v ≤ℤ (d +ℤ pos x) → (v +ℤ pos past) ≤ℤ (d +ℤ pos (x + past))
+further v d x past h = omega (arith, ints, h)
+
+-- a task joins others with a lag within its limit, so far past its placement; its next request may be of another slice
+module _ (ns : ℕ) (front : ℤ) (Kept : ℕ → Entry → Type 0) (keeps : Keeps Kept) (js : List Joiner) (q r : State) (task : ℕ) (s : Sleeper) (past next : ℕ)
     (absent : get q.runnable task ≡ None) (some : 1 ≤ total_weight q.runnable) (limited : is_lag s.lag s.nice s.slice ≡ true)
-    (put : r.runnable ≡ insert q.runnable task (record (joiner q s) { slice = next })) (w : IsWithin (joined ns front Kept keeps js) q.runnable) where
+    (put : r.runnable ≡ insert q.runnable task (record (joiner_past q s past) { slice = next })) (w : IsWithin (joined ns front Kept keeps js) q.runnable) where
   abbrev most : ℕ
-  most = reach_past ns (beyond_turns ns js) q.runnable s
+  most = reach_past ns (beyond_turns ns js) q.runnable s + past
 
   abbrev more : List Joiner
   more = record { task = task; nice = s.nice; reach = most } ∷ js
 
-  near_each : (t : ℕ) (e : Entry) → get q.runnable t ≡ Some e → IsOther js t → (placement q s) ≤ℤ (e.d +ℤ pos most)
+  near_each : (t : ℕ) (e : Entry) → get q.runnable t ≡ Some e → IsOther js t → ((placement q s) +ℤ pos past) ≤ℤ (e.d +ℤ pos most)
   near_each t e here other =
-      near_by (placement q s) e.d (total_moment q.runnable) (total_weight q.runnable) (turns_of_others ns q.runnable + beyond_turns ns js)
-      (lag_limit s * (total_weight q.runnable + weight_of s.nice)) some (near_joiner q s some limited) (late_beyond ns front Kept keeps js q.runnable w t e other here)
+      further (placement q s) e.d (reach_past ns (beyond_turns ns js) q.runnable s) past
+      (near_by (placement q s) e.d (total_moment q.runnable) (total_weight q.runnable) (turns_of_others ns q.runnable + beyond_turns ns js)
+      (lag_limit s * (total_weight q.runnable + weight_of s.nice)) some (near_joiner q s some limited) (late_beyond ns front Kept keeps js q.runnable w t e other here))
 
   -- it is put among tasks that have grown since
   joined_later : (turn : Turn) → IsWithin (joined ns front Kept keeps js) (after_ticks q turn).runnable
-      → IsWithin (joined ns front Kept keeps more) (insert (after_ticks q turn).runnable task (record (joiner q s) { slice = next }))
+      → IsWithin (joined ns front Kept keeps more) (insert (after_ticks q turn).runnable task (record (joiner_past q s past) { slice = next }))
   joined_later turn then_within =
-      joined_within ns front Kept keeps js task most (after_ticks q turn).runnable (record (joiner q s) { slice = next }) then_within (request_of s.nice s.slice) refl
+      joined_within ns front Kept keeps js task most (after_ticks q turn).runnable (record (joiner_past q s past) { slice = next }) then_within (request_of s.nice s.slice) refl
       (nothing_there (after_ticks q turn).runnable task (get (after_ticks q turn).runnable task) refl
       (all_kept (λ t e. t ≡ task → ⊥) (λ t e f m g k. k) q turn (λ t e here. no_entry q.runnable task t e absent here)))
-      (λ t e other here. all_kept (λ u f. IsOther js u → (placement q s) ≤ℤ (f.d +ℤ pos most))
-      (λ u e f m g k another. later_near (placement q s) e.d f.d most (k another) g.later) q turn near_each t e here other)
+      (λ t e other here. all_kept (λ u f. IsOther js u → ((placement q s) +ℤ pos past) ≤ℤ (f.d +ℤ pos most))
+      (λ u e f m g k another. later_near ((placement q s) +ℤ pos past) e.d f.d most (k another) g.later) q turn near_each t e here other)
 
   pub join_goes : (left : Option ℕ) → r.running ≡ q.running → is_running q.running task ≡ false → GoesOn (joined ns front Kept keeps js) left q
       → GoesOn (joined ns front Kept keeps more) left r
   join_goes None runs waits goes = subst (IsWithin (joined ns front Kept keeps more)) (sym put) (joined_later [] goes)
   join_goes (Some rest) runs waits goes = λ turn brief.
       subst (IsWithin (joined ns front Kept keeps more))
-      (sym (all_joined q r task (record (joiner q s) { slice = next }) turn (record { runnable = put; running = runs }) waits).runnable)
+      (sym (all_joined q r task (record (joiner_past q s past) { slice = next }) turn (record { runnable = put; running = runs }) waits).runnable)
       (joined_later turn (goes turn brief))
 
   -- whoever runs then, where the next tick needs a pick

@@ -52,6 +52,10 @@ far time f lag S W w limit h k l =
 abbrev pub joiner : State → Sleeper → Entry
 joiner q s = fresh_entry (placement q s) s.nice s.slice
 
+-- and so far past its placement
+abbrev pub joiner_past : State → Sleeper → ℕ → Entry
+joiner_past q s past = fresh_entry ((placement q s) +ℤ pos past) s.nice s.slice
+
 pub joined_tasks : (q r : State) (task : ℕ) (s : Sleeper) → Joins q task s r → r.runnable ≡ insert q.runnable task (joiner q s)
 joined_tasks q r task s j = j.runnable ∙ joined_by q j.placed task (joiner q s) (is_entry_in_range (joiner q s)) j.is_put
 

@@ -6,7 +6,7 @@ use Rattle.std.proofs.{lemmas.Bool.Decides.nat_tests}
 use Rattle.eevdf_weight.specs.{Weight.weight_of, Charge.lag_limit_of, Placement.floor_div}
 use Rattle.eevdf_queue.specs.{declared.entry.Entry.Entry, declared.answers.WakeAnswer.TheVariants.Woken, declared.answers.ReniceAnswer.TheVariants.Reniced}
 use Rattle.eevdf_queue.specs.{State.State, declared.sleeper.Sleeper.Sleeper, Lag.is_lag, Lag.kept_lag, Leaving.leave, Moves.sleeper_of, Moves.with_runnable}
-use Rattle.eevdf_queue.specs.{Placing.put, Placing.placed_entry, Wake.wake, Wake.wake_to, Wake.wake_sleeper, Renice.renice, Renice.renice_to, Renice.renice_entry, Renice.reniced}
+use Rattle.eevdf_queue.specs.{Placing.put, Placing.placed_entry, Wake.wake, Wake.wake_to, Wake.wake_sleeper, Wake.waking_entry, Renice.renice, Renice.renice_to, Renice.renice_entry, Renice.reniced}
 use Rattle.eevdf_queue.proofs.Bounds.{cut_small}
 use Rattle.eevdf_fairness.specs.{Joining.Joins, JoiningDeeds.HasOthers, JoiningDeeds.DeedsJoin}
 
@@ -29,9 +29,11 @@ module _ (q : State) (task : ℕ) (s : Sleeper) (others : HasOthers q task) (lim
   woken_by None is woken = cc
   woken_by (Some placed) is woken = joins placed _ is refl
 
-  woken : get q.asleep task ≡ Some s → (wake q task).0 ≡ Woken → Joins q task s (wake q task).1
-  woken here =
-      subst (λ (o : Option Sleeper). (wake_sleeper q task o).0 ≡ Woken → Joins q task s (wake_sleeper q task o).1) (sym here) (woken_by (put q task s) refl)
+  woken : get q.asleep task ≡ Some s → get q.places task ≡ None → (wake q task).0 ≡ Woken → Joins q task s (wake q task).1
+  woken here none =
+      subst (λ (o : Option Sleeper). (wake_sleeper q task o).0 ≡ Woken → Joins q task s (wake_sleeper q task o).1) (sym here)
+      (subst (λ (o : Option ℤ). (wake_to q task (with_runnable q task (waking_entry q s o))).0 ≡ Woken → Joins q task s (wake_to q task (with_runnable q task (waking_entry q s o))).1)
+      (sym none) (woken_by (put q task s) refl))
 
   placed_by : (o : Option Entry) → placed_entry q s ≡ o → is_some o ≡ true → Joins q task s (unwrap_or (put q task s) q)
   placed_by None is some = cc

@@ -8,7 +8,9 @@ pub mod LoweredAgain
 pub mod Falling
 pub mod Turning
 pub mod Steps
-pub mod RebasedAlike
+pub mod RestOfQueue
+pub mod SameRunnable
+pub mod SameTimes
 pub mod LeavingDeeds
 pub mod LeavingLater
 pub mod Owed

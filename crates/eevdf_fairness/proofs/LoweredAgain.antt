@@ -53,7 +53,14 @@ none_lowered by =
 
 -- ---- queues
 pub lower_same : (q : State) → IsLower (pos 0) q q
-lower_same q = record { runnable = sym (tasks_same q.runnable); running = refl; asleep = refl; base = λ none. omega (arith, ints) }
+lower_same q = record {
+  runnable = sym (tasks_same q.runnable);
+  running = refl;
+  asleep = refl;
+  base = λ none. omega (arith, ints);
+  places = refl;
+  shift = omega (arith, ints);
+}
 
 pub lower_again : (a b : ℤ) (q r s : State) → IsLower a q r → IsLower b r s → IsLower (a +ℤ b) q s
 lower_again a b q r s h k = record {
@@ -61,8 +68,13 @@ lower_again a b q r s h k = record {
   running = k.running ∙ h.running;
   asleep = k.asleep ∙ h.asleep;
   base = λ none. further q.base r.base s.base (h.base none) (k.base (h.runnable ∙ ap (lowered_tasks a) none ∙ none_lowered a));
+  places = k.places ∙ h.places;
+  shift = more q.shift r.shift s.shift h.shift k.shift;
 }
   where
+    more : (x y z : ℤ) → y ≡ x +ℤ a → z ≡ y +ℤ b → z ≡ x +ℤ (a +ℤ b)
+    more x y z e f = omega (arith, ints, e, f)
+
     further : (x y z : ℤ) → y ≡ x -ℤ a → z ≡ y -ℤ b → z ≡ x -ℤ (a +ℤ b)
     further x y z e f = omega (arith, ints, e, f)
 
@@ -72,6 +84,8 @@ lower_back a q r h = record {
   running = sym h.running;
   asleep = sym h.asleep;
   base = λ none. up q.base r.base (h.base (sym back ∙ ap (lowered_tasks (pos 0 -ℤ a)) none ∙ none_lowered (pos 0 -ℤ a)));
+  places = sym h.places;
+  shift = less q.shift r.shift h.shift;
 }
   where
     nothing : a +ℤ (pos 0 -ℤ a) ≡ pos 0
@@ -84,6 +98,9 @@ lower_back a q r h = record {
 
     up : (x y : ℤ) → y ≡ x -ℤ a → x ≡ y -ℤ (pos 0 -ℤ a)
     up x y e = omega (arith, ints, e)
+
+    less : (x y : ℤ) → y ≡ x +ℤ a → x ≡ y +ℤ (pos 0 -ℤ a)
+    less x y e = omega (arith, ints, e)
 
 pub lower_by : (a b : ℤ) (q r : State) → a ≡ b → IsLower a q r → IsLower b q r
 lower_by a b q r e h = subst (λ (z : ℤ). IsLower z q r) e h

@@ -1,10 +1,11 @@
 -- A lowered machine does each deed alike.
 use Rattle.std.proofs.Common.{◌≡◌, ℕ, ◌==◌, Bool, true, false, cond, List, Option, Some, None, refl, sym, ap, ◌∙◌, subst, inl, inr, arith}
-use Rattle.std.specs.Prelude.{ℤ, Ok, Err, is_some, nat_lt, ◌+◌, unwrap_or, option_and_then}
-use Rattle.std.specs.{Option.option_map, FinMap.contains_key}
+use Rattle.std.specs.Prelude.{ℤ, ◌+ℤ◌, ◌-ℤ◌, Ok, Err, is_some, nat_lt, ◌+◌, unwrap_or, option_and_then}
+use Rattle.std.specs.{Option.option_map, Ordering.nat_cmp, FinMap.FinMap, FinMap.contains_key, FinMap.insert}
+use Rattle.std.proofs.lemmas.Int.{ints}
 use Rattle.eevdf_weight.specs.Weight.{weight_of}
-use Rattle.eevdf_queue.specs.{declared.entry.Entry.Entry, State.State, State.Contents, Candidate.is_running, Candidate.candidate_of}
-use Rattle.eevdf_queue.specs.{Moves.put_asleep, Moves.sleeper_of, Moves.with_runnable, Placing.placed_entry, Placing.can_place, Placing.put, Attributes.without_lag}
+use Rattle.eevdf_queue.specs.{declared.entry.Entry.Entry, declared.sleeper.Sleeper.Sleeper, State.State, State.Contents, Candidate.is_running, Candidate.candidate_of}
+use Rattle.eevdf_queue.specs.{Doze.dozing, Doze.put_dozing, Moves.put_asleep, Moves.sleeper_of, Moves.with_runnable, Placing.placed_entry, Placing.can_place, Placing.put, Attributes.without_lag}
 use Rattle.eevdf_queue.specs.Leaving.{carried, carried_running, leave}
 use Rattle.eevdf_queue.specs.LoweredQueues.{IsLower, AnswerAlike, JoinAlike, LoweredQueueAnswersAlike, lowered_contents}
 use Rattle.eevdf_queue.specs.LoweredQueues as queues
@@ -14,13 +15,13 @@ use Rattle.eevdf_queue.specs.declared.answers.WakeAnswer.TheVariants as wakes
 use Rattle.eevdf_queue.specs.declared.answers.ReniceAnswer.TheVariants as renices
 use Rattle.eevdf_queue.specs.declared.answers.SetAnswer.TheVariants as sets
 use Rattle.eevdf_ops.specs.{declared.deeds.Deed.Deed, declared.deeds.Answer.Answer, declared.deeds.Answer.TheVariants.Range, declared.deeds.Answer.TheVariants.Balanced}
-use Rattle.eevdf_ops.specs.declared.deeds.Deed.TheVariants.{Tick, Pick, Yield, Sleep, Wake, Pull, Renice, Begin, End, Set, Rebase}
+use Rattle.eevdf_ops.specs.declared.deeds.Deed.TheVariants.{Tick, Pick, Yield, Sleep, Doze, Wake, Pull, Renice, Begin, End, Set, Rebase}
 use Rattle.eevdf_ops.specs.declared.acts.Act.{Act}
 use Rattle.eevdf_ops.specs.declared.acts.Act.TheVariants as act
 use Rattle.eevdf_ops.specs.declared.acts.LocalAct.TheVariants as local
 use Rattle.eevdf_ops.specs.declared.acts.Transfer.TheVariants as transfer
 use Rattle.eevdf_ops.specs.OneQueue.{answer_of_tick, answer_of_pick, answer_of_yield, answer_of_wake, answer_of_renice, answer_of_set, answer_of_begin}
-use Rattle.eevdf_ops.specs.{Setup.home_of, Machine.Machine, Machine.queue_at, LocalActs.slept_here, LocalActs.ended_here}
+use Rattle.eevdf_ops.specs.{Setup.home_of, Machine.Machine, Machine.queue_at, LocalActs.slept_here, LocalActs.dozed_here, LocalActs.ended_here}
 use Rattle.eevdf_ops.specs.{Transfers.slept_away, Transfers.ended_away, Transfers.pulled, WholeEnd.ending, Whole.at_cpu, Whole.at_two, Whole.done_at, Whole.whole}
 use Rattle.eevdf_ops.specs.WholePull.{offer, load_of, decision, with_task}
 use Rattle.eevdf_fairness.specs.LoweredMachines.{IsLowerMachine, AreAlike, is_range, is_rebase, LoweredMachineAnswersAlike}
@@ -96,6 +97,25 @@ module _ (alike : LoweredQueueAnswersAlike) (by : ℤ) (q r : State) (h : IsLowe
 
   sleep_one : (task : ℕ) → OneAlike by (slept_here (carried_running q task) q) (slept_here (carried_running r task) r)
   sleep_one task = left_one slept_here (carried_running q task) (carried_running r task) (running_lower task) (λ same. (refl, h)) (λ p same. (refl, asleep_one p))
+
+  -- a place counts the shift, by which that of the lower queue is greater
+  same_place : (start shift lower : ℤ) → lower ≡ shift +ℤ by → (start -ℤ by) +ℤ lower ≡ start +ℤ shift
+  same_place start shift lower e = omega (arith, ints, e)
+
+  put_dozing_alike : (v w : State) (p : Contents) → IsLower by v w → IsLower by (put_dozing v p) (put_dozing w (lowered_contents by p))
+  put_dozing_alike v w p k = record {
+    runnable = k.runnable;
+    running = k.running;
+    asleep = ap (λ (sleepers : FinMap nat_cmp Sleeper). insert sleepers p.task (dozing p)) k.asleep;
+    base = k.base;
+    places = ap (λ (places : FinMap nat_cmp ℤ). insert places p.task ((p.start -ℤ by) +ℤ w.shift)) k.places ∙ ap (insert v.places p.task) (same_place p.start v.shift w.shift k.shift);
+    shift = k.shift;
+  }
+
+  doze_one : (task : ℕ) → OneAlike by (dozed_here (carried_running q task) q) (dozed_here (carried_running r task) r)
+  doze_one task =
+      left_one dozed_here (carried_running q task) (carried_running r task) (running_lower task) (λ same. (refl, h))
+      (λ p same. (refl, put_dozing_alike (leave q p.task) (leave r p.task) p (answers.left p.task)))
 
   end_one : (task : ℕ) → OneAlike by (ended_here (ending q task) q) (ended_here (ending r task) r)
   end_one task = left_one ended_here (ending q task) (ending r task) (ending_lower task) (λ same. (refl, h)) (λ p same. (refl, asleep_one p))
@@ -178,11 +198,18 @@ module _ (alike : LoweredQueueAnswersAlike) (homes : List ℕ) (by : ℕ → ℤ
   told cpu f range x y t stays too alike =
       at_here cpu _ _ (told_alike f range (by cpu) (queue_at m cpu) (queue_at n cpu) x y t (h.queues cpu) stays too alike)
 
-  sleeps : (cpu task home : ℕ) (b : Bool) → Alike cpu (cond b (act.Local (local.Sleep task)) (act.Transfer home (transfer.Sleep task)))
-  sleeps cpu task home true = at_here cpu _ _ (sleep_one alike (by cpu) (queue_at m cpu) (queue_at n cpu) (h.queues cpu) task)
-  sleeps cpu task home false =
+  sleeps_away : (cpu task home : ℕ) → Alike cpu (act.Transfer home (transfer.Sleep task))
+  sleeps_away cpu task home =
       at_both by m n h cpu home _ _
       (sleep_two alike (by cpu) (by home) (queue_at m cpu) (queue_at n cpu) (queue_at m home) (queue_at n home) (h.queues cpu) (h.queues home) task)
+
+  sleeps : (cpu task home : ℕ) (b : Bool) → Alike cpu (cond b (act.Local (local.Sleep task)) (act.Transfer home (transfer.Sleep task)))
+  sleeps cpu task home true = at_here cpu _ _ (sleep_one alike (by cpu) (queue_at m cpu) (queue_at n cpu) (h.queues cpu) task)
+  sleeps cpu task home false = sleeps_away cpu task home
+
+  dozes : (cpu task home : ℕ) (b : Bool) → Alike cpu (cond b (act.Local (local.Doze task)) (act.Transfer home (transfer.Sleep task)))
+  dozes cpu task home true = at_here cpu _ _ (doze_one alike (by cpu) (queue_at m cpu) (queue_at n cpu) (h.queues cpu) task)
+  dozes cpu task home false = sleeps_away cpu task home
 
   ends : (cpu task home : ℕ) (b : Bool) → Alike cpu (cond b (act.Local (local.End task)) (act.Transfer home (transfer.End task)))
   ends cpu task home true = at_here cpu _ _ (end_one alike (by cpu) (queue_at m cpu) (queue_at n cpu) (h.queues cpu) task)
@@ -196,6 +223,7 @@ module _ (alike : LoweredQueueAnswersAlike) (homes : List ℕ) (by : ℕ → ℤ
   done_alike (Pick cpu) e = at_here cpu _ _ (λ same. (ap answer_of_pick (sym (there cpu).pick), (there cpu).picked))
   done_alike (Yield cpu) e = told cpu answer_of_yield yields.Range _ _ (record { told = refl; alone = λ a is. grind arith }) (yield_stays (queue_at m cpu)) (yield_stays (queue_at n cpu)) (there cpu).yields
   done_alike (Sleep cpu task) e = sleeps cpu task (home_of homes task) (home_of homes task == cpu)
+  done_alike (Doze cpu task) e = dozes cpu task (home_of homes task) (home_of homes task == cpu)
   done_alike (Wake cpu task sender) e =
       told cpu answer_of_wake wakes.Range _ _ (record { told = refl; alone = λ a is. grind arith }) (wake_stays (queue_at m cpu) task) (wake_stays (queue_at n cpu) task) ((there cpu).wake task)
   done_alike (Pull cpu source) e =

@@ -8,7 +8,7 @@ use Rattle.eevdf_queue.specs.{Moves.request_of, Pick.after_pick, Tick.tick, Yiel
 use Rattle.eevdf_queue.proofs.Sound.{gone}
 use Rattle.eevdf_ops.specs.{declared.deeds.Deed.Deed, Machine.Machine, Machine.queue_at, Whole.whole, Whole.machine_after}
 use Rattle.eevdf_ops.proofs.WholePlaces.{length-whole}
-use Rattle.eevdf_fairness.specs.{Leavings.HaveSameRunnable, Fair.turns_of_others}
+use Rattle.eevdf_fairness.specs.{Leavings.HaveSameRunnable, Leavings.HaveSameTimes, Fair.turns_of_others}
 use Rattle.eevdf_fairness.specs.OneCpuSteps.{Change, Picks, Ticks, Loses, Lowers, Gains, Yields}
 use Rattle.eevdf_fairness.specs.OneCpuJoins.{AreLevel, Course, begun, reach_past, JoinsOthers, IsWithinTurn, MayCome, course_by, Follows, Comes, BeginsAnew, course_after, change_by, MayFollow, course_of}
 use Rattle.eevdf_fairness.specs.OneCpuJoins.{HasNotJoined, OneCpuJoinsKeepFair}
@@ -17,8 +17,8 @@ use Rattle.eevdf_fairness.proofs.{AfterJoin.behind_by, Joiners.Joiner, Joiners.I
 use Rattle.eevdf_fairness.proofs.GoingOn.{GoesOn, now, goes_alike, pick_goes, tick_goes, leave_goes, rebase_goes, join_goes, join_now, yield_goes}
 use Rattle.eevdf_fairness.proofs.{OwnChanges.IsTold, OneCpuSteps.one_change}
 
-back : (q r : State) → HaveSameRunnable q r → HaveSameRunnable r q
-back q r same = record { runnable = sym same.runnable; running = sym same.running }
+back : (q r : State) → HaveSameTimes q r → HaveSameRunnable r q
+back q r same = record { runnable = sym same.tasks.runnable; running = sym same.tasks.running }
 
 -- who runs, where another task leaves
 waits_by : (q : State) (task : ℕ) (o : Option Entry) → is_running q.running task ≡ false → (without_entry q task o).running ≡ q.running
@@ -62,7 +62,7 @@ module _ (first : PickIsFirst) (nobody : PickOfNobody) (ns : ℕ) where
     abbrev rule : Rule
     rule = Asked ns asked.front asked.joiners
 
-    tick_by : (left : Option ℕ) (t : ℕ) → HaveSameRunnable r (tick q t).1 → IsWithinTurn left t → GoesOn rule left q → GoesOn rule (option_map (λ rest. rest - t) left) r
+    tick_by : (left : Option ℕ) (t : ℕ) → HaveSameTimes r (tick q t).1 → IsWithinTurn left t → GoesOn rule left q → GoesOn rule (option_map (λ rest. rest - t) left) r
     tick_by None t same within goes = absurd within
     tick_by (Some rest) t same within goes = goes_alike rule (Some (rest - t)) (tick q t).1 r (back _ _ same) (tick_goes rule rest q t within goes)
 
@@ -74,27 +74,18 @@ module _ (first : PickIsFirst) (nobody : PickOfNobody) (ns : ℕ) where
       more = record {
         task = task;
         nice = may.sleeper.nice;
-        reach = reach_past ns (beyond_turns ns asked.joiners) (leave q task).runnable may.sleeper;
+        reach = reach_past ns (beyond_turns ns asked.joiners) (leave q task).runnable may.sleeper + may.past;
       } ∷ asked.joiners
 
       more_goes : (b : Bool) → is_running q.running task ≡ b → GoesOn (Asked ns asked.front more) (cond b None x.left) r
       more_goes true is =
-          join_now ns asked.front Nothing keeps_nothing asked.joiners (leave q task) r task may.sleeper may.next
+          join_now ns asked.front Nothing keeps_nothing asked.joiners (leave q task) r task may.sleeper may.past may.next
           (left_absent q task (get q.runnable task) refl) may.some may.limited may.joined (now rule x.left (leave q task) left_goes)
       more_goes false is =
           let same : (leave q task).running ≡ q.running = waits_by q task (get q.runnable task) is in
-          join_goes ns asked.front Nothing keeps_nothing asked.joiners (leave q task) r task may.sleeper may.next
+          join_goes ns asked.front Nothing keeps_nothing asked.joiners (leave q task) r task may.sleeper may.past may.next
           (left_absent q task (get q.runnable task) refl) may.some may.limited may.joined (now rule x.left (leave q task) left_goes) x.left
           (runs ∙ sym same) (ap (λ (o : Option ℕ). is_running o task) same ∙ is) left_goes
-
-      join_asked : IsAsked ns (course_by ns x q (Some (Gains task)) r may) r
-      join_asked = record {
-        front = asked.front;
-        joiners = more;
-        goes = more_goes (is_running q.running task) refl;
-        late = ap (λ (late : ℕ). late + (weight_of may.sleeper.nice * reach_past ns late (leave q task).runnable may.sleeper - 1024 * ns)) asked.late;
-        others = λ t never. (never.0, asked.others t never.1);
-      }
 
     -- by any other change: of what is left of the turn alone more is asked
     asked_still : (left : Option ℕ) → GoesOn rule left r → IsAsked ns (record x { left = left }) r
@@ -103,7 +94,7 @@ module _ (first : PickIsFirst) (nobody : PickOfNobody) (ns : ℕ) where
     asked_by : (change : Option Change) → IsTold change q r → (may : MayCome x q change r) → IsAsked ns (course_by ns x q change r may) r
     asked_by None told may = asked_still x.left (goes_alike rule x.left q r (back _ _ told) asked.goes)
     asked_by (Some Picks) told may = asked_still (Some ns) (goes_alike rule (Some ns) (after_pick q) r (back _ _ told) (pick_goes first nobody rule x.left q asked.goes))
-    asked_by (Some (Ticks t)) told may = asked_still (option_map (λ rest. rest - t) x.left) (tick_by x.left t told may asked.goes)
+    asked_by (Some (Ticks t)) told may = asked_still (option_map (λ rest. rest - t) x.left) (tick_by x.left t told.1 may asked.goes)
     asked_by (Some (Loses task)) told may =
         asked_still x.left (goes_alike rule x.left (leave q task) r (back _ _ told) (leave_goes rule x.left q task (λ e so. so) asked.goes))
     asked_by (Some Lowers) told may = record {
@@ -115,7 +106,13 @@ module _ (first : PickIsFirst) (nobody : PickOfNobody) (ns : ℕ) where
       late = asked.late;
       others = asked.others;
     }
-    asked_by (Some (Gains task)) told may = join_asked task may told
+    asked_by (Some (Gains task)) told may = record {
+      front = asked.front;
+      joiners = more task may told;
+      goes = more_goes task may told (is_running q.running task) refl;
+      late = ap (λ (late : ℕ). late + (weight_of may.sleeper.nice * (reach_past ns late (leave q task).runnable may.sleeper + may.past) - 1024 * ns)) asked.late;
+      others = λ t never. (never.0, asked.others t never.1);
+    }
     asked_by (Some Yields) told may =
         asked_still None (goes_alike rule None (yield_now q).1 r (back _ _ told) (yield_goes ns asked.front asked.joiners x.left q asked.goes))
 

@@ -3,20 +3,22 @@ use Rattle.std.proofs.Common.{◌≡◌, ℕ, suc, zero, ◌+◌, ◌*◌, ◌<�
 use Rattle.std.specs.Prelude.{◌==◌, ℤ, pos, negsuc, ◌+ℤ◌, ◌*ℤ◌, ◌<ℤ◌}
 use Rattle.std.specs.{Ordering.nat_cmp, FinMap.FinMap, FinMap.get, FinMap.contains_key, FinMap.insert}
 use Rattle.eevdf_queue.specs.declared.sleeper.Sleeper.{Sleeper}
-use Rattle.eevdf_queue.specs.{declared.entry.Entry.Entry, declared.answers.TickAnswer.TickAnswer, State.State, Moves.is_entry_in_range, Pick.pick_of, Pick.picked_by, Pick.after_pick}
+use Rattle.eevdf_queue.specs.{declared.entry.Entry.Entry, declared.answers.TickAnswer.TickAnswer, State.State, Moves.is_entry_in_range, Pick.after_pick}
 use Rattle.eevdf_queue.specs.{Tick.tick, Tick.tick_running, Tick.tick_entry, Tick.is_used_up, Tick.charged as charged_entry, Sums.Tasks, Sums.total_weight, Sums.total_moment}
 use Rattle.eevdf_queue.specs.declared.answers.TickAnswer.TheVariants as ticked
 use Rattle.eevdf_ops.specs.{declared.deeds.Deed.Deed, declared.deeds.Answer.Answer, Machine.Machine, Machine.queue_at, OneQueue.answer_of_tick, Whole.whole, Whole.lines_of, Whole.machine_after}
-use Rattle.eevdf_ops.specs.declared.deeds.Deed.TheVariants.{Tick, Pick, Yield, Sleep, Wake, Pull, Renice, Begin, End, Set, Rebase}
+use Rattle.eevdf_ops.specs.declared.deeds.Deed.TheVariants.{Tick, Pick, Yield, Sleep, Doze, Wake, Pull, Renice, Begin, End, Set, Rebase}
 use Rattle.eevdf_ops.specs.declared.deeds.Answer.TheVariants as answered
 use Rattle.eevdf_ops.proofs.{MapCounts.equal, WholePlaces.length-after, WholePlaces.length-whole}
 use Rattle.eevdf_fairness.specs.{Turns.Turn, Turns.after_ticks, Turns.after_turn, Turns.after_turns, Tallies.Measure, Tallies.over_ticks, Tallies.over_turns, Fair.turns_of_others}
 use Rattle.eevdf_fairness.specs.{Tallies.if_charged, Tallies.if_charged_to, Tallies.remainder, Tallies.remainder_of, Tallies.cpu_time, Tallies.cpu_rounding, Share.HasItsShare, Share.TurnsGiveShares}
-use Rattle.eevdf_fairness.specs.{Leavings.Takes, Leavings.after_steps, Leavings.HaveSameRunnable, Healing.HasCaughtUp, Healing.HealedTurnsGiveShares}
+use Rattle.eevdf_fairness.specs.{Leavings.Takes, Leavings.after_steps, Leavings.HaveSameRunnable, Leavings.HaveSameTimes, Healing.HasCaughtUp, Healing.HealedTurnsGiveShares}
 use Rattle.eevdf_fairness.specs.OneCpuSteps.{Change, Picks, Ticks, Loses, Lowers, Gains, Yields, own_change, change_at, and_then, changes_at, changes_of}
 use Rattle.eevdf_fairness.specs.Lines.{ticked_on, charged, charged_to, over_lines, HasItsShareOfLines}
 use Rattle.eevdf_fairness.specs.OneCpuShares.{OnlyTurnsChange, ChangesTellTime, ChangesGiveShares, HealedChangesGiveShares}
-use Rattle.eevdf_fairness.proofs.{LeavingDeeds.alike, LeavingDeeds.of_same, LeavingDeeds.then, LeavingDeeds.ticked as tick_alike, LeavingDeeds.of_turns, LeavingDeeds.picked as pick_alike}
+use Rattle.eevdf_fairness.proofs.{SameRunnable.then, SameRunnable.ticked as tick_alike, SameRunnable.of_turns, SameRunnable.picked as pick_alike}
+use Rattle.eevdf_fairness.proofs.{RestOfQueue.KeepsRest, RestOfQueue.turns_rest}
+use Rattle.eevdf_fairness.proofs.SameTimes as times
 use Rattle.eevdf_fairness.proofs.{OwnChanges.changed, OwnChanges.changed_by, OwnChanges.told_step, OneCpuSteps.all_changed, OneCpuSteps.AreOfSteps, OneCpuSteps.one_change, OneCpuSteps.changed_by_alike}
 use Rattle.eevdf_fairness.proofs.OneCpuSteps.{first_of, rest_of, as_changed, are_of_steps, steps_changed}
 use Rattle.eevdf_fairness.proofs.Lines.{none_charged, none_charged_to, charged_alike, charged_to_alike, shares_told}
@@ -128,6 +130,8 @@ module _ (g : Measure) (reads : Reads g) where
   own_none q (Yield at) a other = refl
   own_none q (Sleep at task) (answered.Slept lag) other = refl
   own_none q (Sleep at task) a other = refl
+  own_none q (Doze at task) (answered.Slept lag) other = refl
+  own_none q (Doze at task) a other = refl
   own_none q (Wake at task sender) answered.Woken other = refl
   own_none q (Wake at task sender) a other = refl
   own_none q (Pull at source) a other = refl
@@ -179,6 +183,7 @@ module _ (g : Measure) (reads : Reads g) where
     line_amount m (Pick at) = own_line m (Pick at) at (λ c n same. cc)
     line_amount m (Yield at) = own_line m (Yield at) at (λ c n same. cc)
     line_amount m (Sleep at task) = own_line m (Sleep at task) at (λ c n same. cc)
+    line_amount m (Doze at task) = own_line m (Doze at task) at (λ c n same. cc)
     line_amount m (Wake at task sender) = own_line m (Wake at task sender) at (λ c n same. cc)
     line_amount m (Pull at source) = none (whole homes (Pull at source) m).0 ∙ sym (pull_none (queue_at m cpu) cpu at source (whole homes (Pull at source) m).0)
     line_amount m (Renice at task nice) = own_line m (Renice at task nice) at (λ c n same. cc)
@@ -187,7 +192,7 @@ module _ (g : Measure) (reads : Reads g) where
     line_amount m (Set at task nice slice) = own_line m (Set at task nice slice) at (λ c n same. cc)
     line_amount m (Rebase at) = own_line m (Rebase at) at (λ c n same. cc)
 
-    in_lines : (m : Machine) (deeds : List Deed) (q : State) → cpu < length m → HaveSameRunnable (queue_at m cpu) q → AreOfSteps (changes_at homes cpu m deeds)
+    in_lines : (m : Machine) (deeds : List Deed) (q : State) → cpu < length m → HaveSameTimes (queue_at m cpu) q → AreOfSteps (changes_at homes cpu m deeds)
         → over_lines f cpu (lines_of homes m deeds) ≡ over_changes g (changes_at homes cpu m deeds) q
     in_lines m [] q h same these = refl
     in_lines m (d ∷ ds) q h same these =
@@ -195,15 +200,15 @@ module _ (g : Measure) (reads : Reads g) where
         let change : Option Change = change_at cpu (queue_at m cpu) d (whole homes d m).0 in
         let rest : List Change = changes_at homes cpu n ds in
         sums (f (whole homes d m).0 (ticked_on cpu d)) (over_lines f cpu (lines_of homes n ds)) (over_change g change q) (over_changes g rest (changed_by change q))
-        (line_amount m d ∙ same_change change (queue_at m cpu) q same)
+        (line_amount m d ∙ same_change change (queue_at m cpu) q same.tasks)
         (in_lines n ds (changed_by change q) (subst (λ (k : ℕ). cpu < k) (sym (length-whole homes d m)) h)
-        (then _ _ _ (told_step change _ _ (one_change homes m cpu h d) (first_of change rest these)) (changed_by_alike change (queue_at m cpu) q same)) (rest_of change rest these))
+        (times.then _ _ _ (told_step change _ _ (one_change homes m cpu h d) (first_of change rest these)) (changed_by_alike change (queue_at m cpu) q same)) (rest_of change rest these))
         ∙ and_then_over change rest q
 
     tells : (m : Machine) (deeds : List Deed) (turns : List Turn) → cpu < length m → OnlyTurnsChange homes cpu m deeds turns
         → over_lines f cpu (lines_of homes m deeds) ≡ over_turns g (queue_at m cpu) turns
     tells m deeds turns h only =
-        in_lines m deeds (queue_at m cpu) h (alike (queue_at m cpu)) (subst AreOfSteps (sym only) (are_of_steps (map Takes turns)))
+        in_lines m deeds (queue_at m cpu) h (times.alike (queue_at m cpu)) (subst AreOfSteps (sym only) (are_of_steps (map Takes turns)))
         ∙ ap (λ (changes : List Change). over_changes g changes (queue_at m cpu)) only ∙ in_turns turns (queue_at m cpu)
 
 pub changes_tell_time : ChangesTellTime
@@ -219,71 +224,40 @@ turns_are_steps q [] = refl
 turns_are_steps q (turn ∷ turns) = turns_are_steps (after_turn q turn) turns
 
 turns_leave : (homes : List ℕ) (m : Machine) (cpu : ℕ) (deeds : List Deed) (turns : List Turn) → cpu < length m → OnlyTurnsChange homes cpu m deeds turns
-    → HaveSameRunnable (queue_at (machine_after homes m deeds) cpu) (after_turns (queue_at m cpu) turns)
+    → HaveSameTimes (queue_at (machine_after homes m deeds) cpu) (after_turns (queue_at m cpu) turns)
 turns_leave homes m cpu deeds turns h only =
-    then _ _ _ (as_changed homes m cpu deeds (queue_at m cpu) h (alike (queue_at m cpu)) (subst AreOfSteps (sym only) (are_of_steps (map Takes turns))))
-    (of_same _ _ (ap (λ (changes : List Change). all_changed changes (queue_at m cpu)) only ∙ steps_changed (map Takes turns) (queue_at m cpu) ∙ turns_are_steps (queue_at m cpu) turns))
-
--- turns change nothing of who sleeps, and of `base`
-record KeepsRest (q r : State) : Type 0 where
-  asleep : r.asleep ≡ q.asleep
-  base : r.base ≡ q.base
-
-rest_stays : (q : State) → KeepsRest q q
-rest_stays q = record { asleep = refl; base = refl }
-
-rest_then : (a b c : State) → KeepsRest a b → KeepsRest b c → KeepsRest a c
-rest_then a b c h k = record { asleep = k.asleep ∙ h.asleep; base = k.base ∙ h.base }
-
-tick_to_rest : (q : State) (t : ℕ) (e : Entry) (resched b : Bool)
-    → KeepsRest q (cond {A = TickAnswer × State} b (ticked.Charged t resched, record q { runnable = insert q.runnable t e }) (ticked.Range, q)).1
-tick_to_rest q t e resched true = record { asleep = refl; base = refl }
-tick_to_rest q t e resched false = rest_stays q
-
-tick_entry_rest : (q : State) (t ns : ℕ) (o : Option Entry) → KeepsRest q (tick_entry q t o ns).1
-tick_entry_rest q t ns None = rest_stays q
-tick_entry_rest q t ns (Some e) = tick_to_rest q t (charged_entry e ns) (is_used_up e ns) (is_entry_in_range (charged_entry e ns))
-
-tick_rest : (q : State) (ns : ℕ) (o : Option ℕ) → KeepsRest q (tick_running q o ns).1
-tick_rest q ns None = rest_stays q
-tick_rest q ns (Some t) = tick_entry_rest q t ns (get q.runnable t)
-
-pick_rest : (q : State) (o : Option ℕ) → KeepsRest q (picked_by q o)
-pick_rest q None = rest_stays q
-pick_rest q (Some t) = record { asleep = refl; base = refl }
-
-ticks_rest : (q : State) (turn : Turn) → KeepsRest q (after_ticks q turn)
-ticks_rest q [] = rest_stays q
-ticks_rest q (ns ∷ turn) = rest_then q (tick q ns).1 (after_ticks (tick q ns).1 turn) (tick_rest q ns q.running) (ticks_rest (tick q ns).1 turn)
-
-turns_rest : (q : State) (turns : List Turn) → KeepsRest q (after_turns q turns)
-turns_rest q [] = rest_stays q
-turns_rest q (turn ∷ turns) =
-    rest_then q (after_pick q) _ (pick_rest q (pick_of q.runnable))
-    (rest_then (after_pick q) (after_turn q turn) (after_turns (after_turn q turn) turns) (ticks_rest (after_pick q) turn) (turns_rest (after_turn q turn) turns))
+    times.then _ _ _ (as_changed homes m cpu deeds (queue_at m cpu) h (times.alike (queue_at m cpu)) (subst AreOfSteps (sym only) (are_of_steps (map Takes turns))))
+    (times.of_same _ _ (ap (λ (changes : List Change). all_changed changes (queue_at m cpu)) only ∙ steps_changed (map Takes turns) (queue_at m cpu) ∙ turns_are_steps (queue_at m cpu) turns))
 
 all_the_same : (q r : State) → HaveSameRunnable q r → KeepsRest r q → q ≡ r
 all_the_same q r same rest =
     ap (λ (m : Tasks). record q { runnable = m }) same.runnable ∙ ap (λ (o : Option ℕ). record q { runnable = r.runnable; running = o }) same.running
-    ∙ ap (λ (a : FinMap nat_cmp Sleeper). record r { asleep = a; base = q.base }) rest.asleep ∙ ap (λ (b : ℤ). record r { base = b }) rest.base
+    ∙ ap (λ (a : FinMap nat_cmp Sleeper). record r { asleep = a; base = q.base; places = q.places; shift = q.shift }) rest.asleep
+    ∙ ap (λ (b : ℤ). record r { base = b; places = q.places; shift = q.shift }) rest.base
+    ∙ ap (λ (p : FinMap nat_cmp ℤ). record r { places = p; shift = q.shift }) rest.places ∙ ap (λ (z : ℤ). record r { shift = z }) rest.shift
+
+-- who sleeps in a queue, and the times that stand, as in another one
+abbrev with_rest : State → State → State
+with_rest q n = record q { asleep = n.asleep; base = n.base; places = n.places; shift = n.shift }
 
 -- ---- shares
 module _ (homes : List ℕ) (m : Machine) (cpu : ℕ) (earlier deeds : List Deed) (ns : ℕ) (before turns : List Turn) (h : cpu < length m)
     (first : OnlyTurnsChange homes cpu m earlier before) (only : OnlyTurnsChange homes cpu (machine_after homes m earlier) deeds turns) where
-  -- from the first queue on, with who sleeps, and `base`, as they are in the last one, turns lead to that
-  ends : after_turns (record (queue_at m cpu) { asleep = (queue_at (machine_after homes m earlier) cpu).asleep; base = (queue_at (machine_after homes m earlier) cpu).base }) before
+  -- from the first queue on, with who sleeps, and the times that stand, as they are in the last one, turns lead to that
+  ends : after_turns (with_rest (queue_at m cpu) (queue_at (machine_after homes m earlier) cpu)) before
       ≡ queue_at (machine_after homes m earlier) cpu
   ends =
       let n : State = queue_at (machine_after homes m earlier) cpu in
-      let q : State = record (queue_at m cpu) { asleep = n.asleep; base = n.base } in
+      let q : State = with_rest (queue_at m cpu) n in
       let same : HaveSameRunnable n (after_turns q before) =
-      then n (after_turns (queue_at m cpu) before) (after_turns q before) (turns_leave homes m cpu earlier before h first)
+      then n (after_turns (queue_at m cpu) before) (after_turns q before) (turns_leave homes m cpu earlier before h first).tasks
       (of_turns (queue_at m cpu) q before (record { runnable = refl; running = refl })) in
-      sym (all_the_same n (after_turns q before) same (record { asleep = sym (turns_rest q before).asleep; base = sym (turns_rest q before).base }))
+      let rest : KeepsRest q (after_turns q before) = turns_rest q before in
+      sym (all_the_same n (after_turns q before) same (record { asleep = sym rest.asleep; base = sym rest.base; places = sym rest.places; shift = sym rest.shift }))
 
   given : ((u : ℕ) (f : Entry)
-      → get (after_turns (record (queue_at m cpu) { asleep = (queue_at (machine_after homes m earlier) cpu).asleep; base = (queue_at (machine_after homes m earlier) cpu).base }) before).runnable u ≡ Some f
-      → HasItsShare ns (after_turns (record (queue_at m cpu) { asleep = (queue_at (machine_after homes m earlier) cpu).asleep; base = (queue_at (machine_after homes m earlier) cpu).base }) before) turns u f)
+      → get (after_turns (with_rest (queue_at m cpu) (queue_at (machine_after homes m earlier) cpu)) before).runnable u ≡ Some f
+      → HasItsShare ns (after_turns (with_rest (queue_at m cpu) (queue_at (machine_after homes m earlier) cpu)) before) turns u f)
       → (t : ℕ) (e : Entry) → get (queue_at (machine_after homes m earlier) cpu).runnable t ≡ Some e
       → HasItsShareOfLines ns cpu (lines_of homes (machine_after homes m earlier) deeds) (queue_at (machine_after homes m earlier) cpu) turns t e
   given shares t e here =
@@ -294,7 +268,7 @@ module _ (homes : List ℕ) (m : Machine) (cpu : ℕ) (earlier deeds : List Deed
 pub changes_give_shares : TurnsGiveShares → ChangesGiveShares
 changes_give_shares shares homes m cpu earlier deeds v ns before turns h first only fresh short more =
     given homes m cpu earlier deeds ns before turns h first only
-    (shares (record (queue_at m cpu) { asleep = (queue_at (machine_after homes m earlier) cpu).asleep; base = (queue_at (machine_after homes m earlier) cpu).base }) v ns before turns fresh short more)
+    (shares (with_rest (queue_at m cpu) (queue_at (machine_after homes m earlier) cpu)) v ns before turns fresh short more)
 
 caught_up_too : (q r : State) (front : ℤ) (ns : ℕ) (before : List Turn) → HaveSameRunnable q r → q.runnable ≡ r.runnable → HasCaughtUp front ns q before → HasCaughtUp front ns r before
 caught_up_too q r front ns before same tasks up =
@@ -306,6 +280,6 @@ caught_up_too q r front ns before same tasks up =
 
 pub healed_changes_give_shares : HealedTurnsGiveShares → HealedChangesGiveShares
 healed_changes_give_shares shares homes m cpu earlier deeds front ns before turns h first only past yielded short more up =
-    let q : State = record (queue_at m cpu) { asleep = (queue_at (machine_after homes m earlier) cpu).asleep; base = (queue_at (machine_after homes m earlier) cpu).base } in
+    let q : State = with_rest (queue_at m cpu) (queue_at (machine_after homes m earlier) cpu) in
     given homes m cpu earlier deeds ns before turns h first only
     (shares q front ns before turns past yielded short more (caught_up_too (queue_at m cpu) q front ns before (record { runnable = refl; running = refl }) refl up))

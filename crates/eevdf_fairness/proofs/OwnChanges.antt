@@ -1,8 +1,9 @@
 -- What a CPU's own deed on its queue alone changes of the runnable tasks and of who runs, by its answer.
-use Rattle.std.proofs.Common.{◌≡◌, ℕ, suc, zero, Bool, true, false, cond, Option, Some, None, refl, sym, ap, ◌∙◌, subst}
-use Rattle.std.specs.Prelude.{ℤ, pos, negsuc, is_some}
-use Rattle.std.specs.FinMap.{get, contains_key}
-use Rattle.eevdf_queue.specs.{declared.entry.Entry.Entry, declared.sleeper.Sleeper.Sleeper, State.State, Moves.is_entry_in_range, Moves.with_runnable, Leaving.leave, Placing.put, Placing.placed_entry, Rebase.lowered_tasks}
+use Rattle.std.proofs.Common.{◌≡◌, ℕ, suc, zero, Bool, true, false, cond, Option, Some, None, refl, sym, ap, ◌∙◌, subst, arith}
+use Rattle.std.specs.Prelude.{ℤ, pos, negsuc, ◌+ℤ◌, is_some}
+use Rattle.std.specs.FinMap.{get, contains_key, empty}
+use Rattle.std.proofs.lemmas.Int.{ints}
+use Rattle.eevdf_queue.specs.{declared.entry.Entry.Entry, declared.sleeper.Sleeper.Sleeper, State.State, Moves.is_entry_in_range, Moves.with_runnable, Leaving.leave, Placing.put, Rebase.lowered_tasks, Rebase.can_rebase, Rebase.rebased}
 use Rattle.eevdf_weight.specs.Limits.{is_in_range}
 use Rattle.eevdf_queue.specs.{declared.answers.TickAnswer.TickAnswer, declared.answers.ReniceAnswer.ReniceAnswer, declared.answers.SetAnswer.SetAnswer}
 use Rattle.eevdf_queue.specs.{declared.answers.YieldAnswer.YieldAnswer, declared.answers.WakeAnswer.WakeAnswer}
@@ -11,14 +12,16 @@ use Rattle.eevdf_queue.specs.declared.answers.ReniceAnswer.TheVariants as renice
 use Rattle.eevdf_queue.specs.declared.answers.YieldAnswer.TheVariants as yields
 use Rattle.eevdf_queue.specs.{Pick.pick_of, Pick.picked_by, Pick.after_pick, Rebase.rebase, Attributes.begin, Attributes.begin_sleeper, Attributes.set, Attributes.set_reniced, Attributes.set_sleeper, SliceChange.set_entry_slice, SliceChange.set_sleeper_slice}
 use Rattle.eevdf_queue.specs.{Tick.tick, Tick.tick_running, Tick.tick_entry, Tick.charged, Yield.yield_now, Yield.yield_running, Yield.yield_entry, Yield.yielded}
-use Rattle.eevdf_queue.specs.{Wake.wake, Wake.wake_sleeper, Wake.wake_to, Renice.renice, Renice.renice_entry, Renice.renice_to}
+use Rattle.eevdf_queue.specs.Sums.{Tasks, total_weight, total_moment, sum_weights, sum_moments, time_over, virtual_time}
+use Rattle.eevdf_queue.specs.{Wake.wake, Wake.wake_sleeper, Wake.wake_to, Wake.waking_entry, Renice.renice, Renice.renice_entry, Renice.renice_to}
 use Rattle.eevdf_queue.specs.Renice.{reniced as joins_again}
+use Rattle.eevdf_queue.proofs.MapFolds.{entries-empty}
 use Rattle.eevdf_ops.specs.declared.deeds.Answer.TheVariants.{Rebased}
 use Rattle.eevdf_ops.specs.declared.deeds.Deed.TheVariants as deed
 use Rattle.eevdf_ops.specs.OneQueue.{answer_of_tick, answer_of_pick, answer_of_yield, answer_of_wake, answer_of_renice, answer_of_set, answer_of_begin}
-use Rattle.eevdf_fairness.specs.Leavings.{HaveSameRunnable}
+use Rattle.eevdf_fairness.specs.Leavings.{HaveSameTimes}
 use Rattle.eevdf_fairness.specs.OneCpuSteps.{Change, Picks, Ticks, Loses, Lowers, Gains, Yields, own_change}
-use Rattle.eevdf_fairness.proofs.{Falling.rebase_runnable, Falling.rebase_running, LoweredAgain.tasks_same, LeavingDeeds.alike, LeavingDeeds.of_same}
+use Rattle.eevdf_fairness.proofs.{Falling.rebase_runnable, Falling.rebase_running, LoweredAgain.tasks_same, SameTimes.alike, SameTimes.of_same}
 
 -- ---- changes, and what they make of a queue
 abbrev pub changed : Change → State → State
@@ -47,18 +50,18 @@ MayBeOfSteps (Some change) = IsOfSteps change
 
 -- what a change that is told says of a queue that was `q` and is `r`
 abbrev pub IsTold : Option Change → State → State → Type 0
-IsTold None q r = HaveSameRunnable r q
-IsTold (Some Picks) q r = HaveSameRunnable r (after_pick q)
-IsTold (Some (Ticks ns)) q r = HaveSameRunnable r (tick q ns).1
-IsTold (Some (Loses task)) q r = HaveSameRunnable r (leave q task)
-IsTold (Some Lowers) q r = HaveSameRunnable r (rebase q).1
+IsTold None q r = HaveSameTimes r q
+IsTold (Some Picks) q r = HaveSameTimes r (after_pick q)
+IsTold (Some (Ticks ns)) q r = (is_some q.running ≡ true) × HaveSameTimes r (tick q ns).1
+IsTold (Some (Loses task)) q r = HaveSameTimes r (leave q task)
+IsTold (Some Lowers) q r = HaveSameTimes r (rebase q).1
 IsTold (Some (Gains task)) q r = r.running ≡ q.running
-IsTold (Some Yields) q r = HaveSameRunnable r (yield_now q).1
+IsTold (Some Yields) q r = HaveSameTimes r (yield_now q).1
 
-pub told_step : (o : Option Change) (q r : State) → IsTold o q r → MayBeOfSteps o → HaveSameRunnable r (changed_by o q)
+pub told_step : (o : Option Change) (q r : State) → IsTold o q r → MayBeOfSteps o → HaveSameTimes r (changed_by o q)
 told_step None q r told steps = told
 told_step (Some Picks) q r told steps = told
-told_step (Some (Ticks ns)) q r told steps = told
+told_step (Some (Ticks ns)) q r told steps = told.1
 told_step (Some (Loses task)) q r told steps = told
 told_step (Some Lowers) q r told steps = told
 told_step (Some (Gains task)) q r told steps = absurd steps
@@ -88,8 +91,12 @@ tick_stays q ns (Some t) = tick_of q t ns (get q.runnable t)
 pub tick_told : (q : State) (at ns : ℕ) → IsTold (own_change q (deed.Tick at ns) (answer_of_tick (tick q ns).0)) q (tick q ns).1
 tick_told q at ns = by (tick q ns).0 refl
   where
+    runs_by : {task : ℕ} {resched : Bool} (o : Option ℕ) → q.running ≡ o → (tick q ns).0 ≡ ticked.Charged task resched → is_some q.running ≡ true
+    runs_by None runs is = let idle : (tick q ns).0 ≡ ticked.Idle = ap (λ (o : Option ℕ). (tick_running q o ns).0) runs in cc
+    runs_by (Some t) runs is = ap (λ (o : Option ℕ). is_some o) runs
+
     by : (a : TickAnswer) → (tick q ns).0 ≡ a → IsTold (own_change q (deed.Tick at ns) (answer_of_tick a)) q (tick q ns).1
-    by (ticked.Charged task resched) is = alike (tick q ns).1
+    by (ticked.Charged task resched) is = (runs_by q.running refl is, alike (tick q ns).1)
     by ticked.Idle is = of_same _ _ (tick_stays q ns q.running (subst IsRefused (sym is) tt))
     by ticked.Range is = of_same _ _ (tick_stays q ns q.running (subst IsRefused (sym is) tt))
 
@@ -105,10 +112,31 @@ pick_told q at = by (pick_of q.runnable) refl
 pub rebase_told : (q : State) (at : ℕ) → IsTold (own_change q (deed.Rebase at) (Rebased (rebase q).0)) q (rebase q).1
 rebase_told q at = by (rebase q).0 refl
   where
+    time_of_none : q.runnable ≡ empty → virtual_time q ≡ q.base
+    time_of_none none =
+        ap (λ (m : Tasks). time_over (total_weight m) (total_moment m) q.base) none ∙ ap (λ es. time_over (sum_weights es) (sum_moments es) q.base) entries-empty
+
+    base_by : (b : Bool) → (cond {A = ℤ × State} b (virtual_time q, rebased q) (pos 0, q)).0 ≡ pos 0 → q.runnable ≡ empty
+        → (cond {A = ℤ × State} b (virtual_time q, rebased q) (pos 0, q)).1.base ≡ q.base
+    base_by true is none = sym is ∙ time_of_none none
+    base_by false is none = refl
+
+    nothing_more : (x y : ℤ) → y ≡ pos 0 → x +ℤ y ≡ x
+    nothing_more x y is = omega (arith, ints, is)
+
+    shift_by : (b : Bool) → (cond {A = ℤ × State} b (virtual_time q, rebased q) (pos 0, q)).0 ≡ pos 0
+        → (cond {A = ℤ × State} b (virtual_time q, rebased q) (pos 0, q)).1.shift ≡ q.shift
+    shift_by true is = nothing_more q.shift (virtual_time q) is
+    shift_by false is = refl
+
     by : (z : ℤ) → (rebase q).0 ≡ z → IsTold (own_change q (deed.Rebase at) (Rebased z)) q (rebase q).1
     by (pos zero) is = record {
-      runnable = rebase_runnable q ∙ ap (λ (z : ℤ). lowered_tasks z q.runnable) is ∙ tasks_same q.runnable;
-      running = rebase_running q;
+      tasks = record {
+        runnable = rebase_runnable q ∙ ap (λ (z : ℤ). lowered_tasks z q.runnable) is ∙ tasks_same q.runnable;
+        running = rebase_running q;
+      };
+      base = λ none. base_by (can_rebase q) is (sym (tasks_same q.runnable) ∙ ap (λ (z : ℤ). lowered_tasks z q.runnable) (sym is) ∙ sym (rebase_runnable q) ∙ none);
+      shift = shift_by (can_rebase q) is;
     }
     by (pos (suc n)) is = alike (rebase q).1
     by (negsuc n) is = alike (rebase q).1
@@ -149,7 +177,7 @@ module _ (q : State) (at task sender : ℕ) where
 
   wake_of : (o : Option Sleeper) → Wakes (wake_sleeper q task o)
   wake_of None = alike q
-  wake_of (Some s) = wake_by (placed_entry q s)
+  wake_of (Some s) = wake_by (waking_entry q s (get q.places task))
 
   pub wake_told : IsTold (own_change q (deed.Wake at task sender) (answer_of_wake (wake q task).0)) q (wake q task).1
   wake_told = wake_of (get q.asleep task)
@@ -188,14 +216,14 @@ module _ (q : State) (at task : ℕ) (nice : ℤ) (slice : ℕ) where
   abbrev Sets : SetAnswer × State → Type 0
   Sets p = IsTold (own_change q (deed.Set at task nice slice) (answer_of_set p.0)) q p.1
 
-  told_by : (r : State) (b : Bool) → HaveSameRunnable r q → IsTold (cond b (Some (Gains task)) None) q r
-  told_by r true same = same.running
+  told_by : (r : State) (b : Bool) → HaveSameTimes r q → IsTold (cond b (Some (Gains task)) None) q r
+  told_by r true same = same.tasks.running
   told_by r false same = same
 
   -- a task that sleeps stays asleep
   asleep_set : (o : Option Sleeper) → Sets (set_sleeper q task nice slice o)
   asleep_set None = alike q
-  asleep_set (Some s) = told_by (set_sleeper q task nice slice (Some s)).1 (contains_key q.runnable task) (record { runnable = refl; running = refl })
+  asleep_set (Some s) = told_by (set_sleeper q task nice slice (Some s)).1 (contains_key q.runnable task) (record { tasks = record { runnable = refl; running = refl }; base = λ none. refl; shift = refl })
 
   sleeper_runs : (r : State) (o : Option Sleeper) → (set_sleeper_slice r task slice o).running ≡ r.running
   sleeper_runs r None = refl
@@ -227,4 +255,4 @@ begin_told q at task nice slice = by (get q.asleep task)
   where
     by : (o : Option Sleeper) → IsTold (own_change q (deed.Begin at task nice slice) (answer_of_begin (is_some o))) q (begin_sleeper q task nice slice o)
     by None = alike q
-    by (Some s) = record { runnable = refl; running = refl }
+    by (Some s) = record { tasks = record { runnable = refl; running = refl }; base = λ none. refl; shift = refl }

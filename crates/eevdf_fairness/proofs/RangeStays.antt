@@ -3,11 +3,11 @@ use Rattle.std.proofs.Common.{◌≡◌, ℕ, Bool, true, false, cond, Option, S
 use Rattle.std.specs.Prelude.{ℤ}
 use Rattle.std.specs.FinMap.{get, insert}
 use Rattle.eevdf_weight.specs.Limits.{is_in_range}
-use Rattle.eevdf_queue.specs.{declared.entry.Entry.Entry, declared.sleeper.Sleeper.Sleeper, State.State, Moves.is_entry_in_range}
+use Rattle.eevdf_queue.specs.{declared.entry.Entry.Entry, declared.sleeper.Sleeper.Sleeper, State.State, Moves.is_entry_in_range, Moves.with_runnable}
 use Rattle.eevdf_queue.specs.{declared.answers.TickAnswer.TickAnswer, declared.answers.YieldAnswer.YieldAnswer, declared.answers.ReniceAnswer.ReniceAnswer}
 use Rattle.eevdf_queue.specs.Tick.{is_used_up, charged, tick, tick_entry, tick_running}
 use Rattle.eevdf_queue.specs.Yield.{yielded, yield_now, yield_entry, yield_running}
-use Rattle.eevdf_queue.specs.{Wake.wake, Wake.wake_to, Wake.wake_sleeper, Renice.renice, Renice.renice_to, Renice.renice_entry, Renice.reniced}
+use Rattle.eevdf_queue.specs.{Wake.wake, Wake.wake_to, Wake.wake_sleeper, Wake.waking_entry, Renice.renice, Renice.renice_to, Renice.renice_entry, Renice.reniced}
 use Rattle.eevdf_queue.specs.{Placing.put, Leaving.leave, Attributes.set, Attributes.set_reniced, Attributes.set_sleeper}
 use Rattle.eevdf_queue.specs.declared.answers.TickAnswer.TheVariants as ticks
 use Rattle.eevdf_queue.specs.declared.answers.YieldAnswer.TheVariants as yields
@@ -56,7 +56,7 @@ module _ (q : State) where
 
   wake_of : (t : ℕ) (o : Option Sleeper) → (wake_sleeper q t o).0 ≡ wakes.Range → (wake_sleeper q t o).1 ≡ q
   wake_of t None is = cc
-  wake_of t (Some s) is = wake_where t (put q t s) is
+  wake_of t (Some s) is = wake_where t (with_runnable q t (waking_entry q s (get q.places t))) is
 
   pub wake_stays : (t : ℕ) → (wake q t).0 ≡ wakes.Range → (wake q t).1 ≡ q
   wake_stays t is = wake_of t (get q.asleep t) is

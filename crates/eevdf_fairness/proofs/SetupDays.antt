@@ -1,8 +1,10 @@
 -- A setup whose tasks start together near the time 0 opens with fresh queues near it, and stays in range.
-use Rattle.std.proofs.Common.{◌≡◌, ℕ, zero, suc, ◌+◌, ◌<◌, ◌≤◌, Bool, true, false, cond, not, List, [], ◌∷◌, map, length, replicate, Option, Some, None, refl, sym, ap, ◌∙◌, subst, arith}
+use Rattle.std.proofs.Common.{◌≡◌, ℕ, zero, suc, ◌+◌, ◌^◌, ◌<◌, ◌≤◌, Bool, true, false, cond, not, List, [], ◌∷◌, map, length, replicate, Option, Some, None, refl, sym, ap, ◌∙◌, subst, arith}
+use Rattle.std.specs.Prelude.{ℤ, pos, unsigned_abs}
 use Rattle.std.specs.List.{AllByRecursion, list_all}
 use Rattle.std.specs.{Ordering.nat_cmp, Cmp.nat_cmp_total}
 use Rattle.std.specs.FinMap.{get, empty, contains_key, len, len-insert, len-empty, get-empty}
+use Rattle.eevdf_weight.specs.Limits.{is_in_range}
 use Rattle.eevdf_queue.specs.{declared.entry.Entry.Entry, State.State, State.Contents, State.empty_state, Moves.fresh_entry}
 use Rattle.eevdf_ops.specs.{declared.deeds.Deed.Deed, declared.deeds.Line.Line, declared.deeds.Answer.Answer}
 use Rattle.eevdf_ops.specs.declared.deeds.Answer.TheVariants.{Range}
@@ -74,10 +76,27 @@ short_begun n task (t ∷ ts) cpu short =
     (joined_has t.asleep (beginner task t) (queue_at rest t.home) short.0 (short_begun n (task + 1) ts t.home short.1))
     (λ k. short_begun n (task + 1) ts k short.1) cpu
 
+-- ---- the times that stand
+abbrev StandsAtZero : State → Type 0
+StandsAtZero q = (q.base ≡ pos 0) × (q.shift ≡ pos 0)
+
+joined_stands : (asleep : Bool) (p : Contents) (q : State) → StandsAtZero q → StandsAtZero (joined asleep p q)
+joined_stands true p q h = h
+joined_stands false p q h = h
+
+stands_begun : (n task : ℕ) (ts : List TaskSpec) (cpu : ℕ) → StandsAtZero (queue_at (begin_at_homes task ts (replicate n empty_state)) cpu)
+stands_begun n task [] cpu = subst StandsAtZero (sym (empty_there n cpu)) (refl, refl)
+stands_begun n task (t ∷ ts) cpu =
+    let rest : Machine = begin_at_homes (task + 1) ts (replicate n empty_state) in
+    each-set (λ k q. StandsAtZero q) rest t.home (begin task t (queue_at rest t.home))
+    (joined_stands t.asleep (beginner task t) (queue_at rest t.home) (stands_begun n (task + 1) ts t.home))
+    (λ k. stands_begun n (task + 1) ts k) cpu
+
 -- ---- the opening, and a history from there
 pub opening_is_near : OpeningIsFresh → OpeningIsNear
 opening_is_near law s near cpu below =
     let here = near.near cpu below in
+    let stands = stands_begun (cpus_of s) 0 s.tasks cpu in
     record {
       time = here.time;
       near = record {
@@ -85,6 +104,8 @@ opening_is_near law s near cpu below =
         near = here.near;
         few = no_more (len (queue_at (start s) cpu).runnable) (length s.tasks) 1024 (few_begun (cpus_of s) 0 s.tasks cpu) near.few;
         slices = short_begun (cpus_of s) 0 s.tasks cpu near.slices;
+        based = ap is_in_range stands.0;
+        shift = subst (λ (z : ℤ). unsigned_abs z ≤ 2 ^ 119) (sym stands.1) (omega arith);
       };
     }
 

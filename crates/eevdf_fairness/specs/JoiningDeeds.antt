@@ -14,9 +14,9 @@ pub record HasOthers (q : State) (task : ℕ) : Type 0 where
   pub absent : get q.runnable task ≡ None
 
 pub record DeedsJoin : Type 0 where
-  -- a wake that is done
+  -- a wake that is done, of a task without a place: one that dozes may come later
   pub wakes : (q : State) (task : ℕ) (s : Sleeper) → HasOthers q task → is_lag s.lag s.nice s.slice ≡ true
-      → get q.asleep task ≡ Some s → (wake q task).0 ≡ Woken → Joins q task s (wake q task).1
+      → get q.asleep task ≡ Some s → get q.places task ≡ None → (wake q task).0 ≡ Woken → Joins q task s (wake q task).1
   -- a pull that takes a task, at the CPU that pulls
   pub pulls : (q : State) (p : Contents) → HasOthers q p.task → is_lag p.lag p.nice p.slice ≡ true
       → can_place q (sleeper_of p) ≡ true → Joins q p.task (sleeper_of p) (with_task q p)

@@ -1,6 +1,6 @@
 -- Turns between which tasks leave, as by a sleep, or by a pull of another CPU, and virtual times are lowered by rebases.
 use Rattle.std.specs.Prelude.{◌≡◌, ℕ, ◌+◌, ◌≤◌, ℤ, pos, ◌+ℤ◌, ◌≤ℤ◌, List, [], ◌∷◌, Some}
-use Rattle.std.specs.FinMap.{get}
+use Rattle.std.specs.FinMap.{get, empty}
 use Rattle.eevdf_weight.specs.{Weight.weight_of, Charge.charge_of}
 use Rattle.eevdf_queue.specs.{declared.entry.Entry.Entry, State.State, Moves.request_of, Sums.Tasks, Leaving.leave, Rebase.rebase}
 use Rattle.eevdf_fairness.specs.Turns.{Turn, turn_length, IsFresh, after_turn, after_turns}
@@ -57,7 +57,14 @@ pub record HaveSameRunnable (q r : State) : Type 0 where
   pub runnable : q.runnable ≡ r.runnable
   pub running : q.running ≡ r.running
 
--- turns, leavings and rebases read nothing else of these, and so they leave such queues
+-- and with the same times: the one that stands, where nothing is runnable, and the shift
+pub record HaveSameTimes (q r : State) : Type 0 where
+  pub tasks : HaveSameRunnable q r
+  pub base : q.runnable ≡ empty → q.base ≡ r.base
+  pub shift : q.shift ≡ r.shift
+
+-- turns and leavings read nothing else of these tasks, and rebases nothing but the times besides, and so they leave such queues
 pub record RunnableTasksDecide : Type 0 where
   pub of_turns : (q r : State) (turns : List Turn) → HaveSameRunnable q r → HaveSameRunnable (after_turns q turns) (after_turns r turns)
-  pub of_steps : (q r : State) (steps : List Step) → HaveSameRunnable q r → HaveSameRunnable (after_steps q steps) (after_steps r steps)
+  pub of_leaving : (q r : State) (task : ℕ) → HaveSameRunnable q r → HaveSameRunnable (leave q task) (leave r task)
+  pub of_steps : (q r : State) (steps : List Step) → HaveSameTimes q r → HaveSameTimes (after_steps q steps) (after_steps r steps)

@@ -24,19 +24,22 @@ pub record Course : Type 0 where
 abbrev pub begun : Course
 begun = record { left = None; late = 0; joined = [] }
 
--- how far past the deadline of another request a task can join tasks that may be late by their turns and `late` more
+-- how far past the deadline of another request the placement of a task can be among tasks that may be late by their turns and `late` more
 abbrev pub reach_past : ℕ → ℕ → Tasks → Sleeper → ℕ
 reach_past ns late tasks s =
     ((turns_of_others ns tasks + late) + lag_limit s * (total_weight tasks + weight_of s.nice)) / total_weight tasks + 1
 
--- a task joins others with a lag within its limit. It has left them first, where it was there; its next request may be of another slice
+-- A task joins others with a lag within its limit, at its placement or so far past it. It has left them first, where it was there; its next
+-- request may be of another slice
 pub record JoinsOthers (q : State) (task : ℕ) (r : State) : Type 0 where
   pub sleeper : Sleeper
+  pub past : ℕ
   pub next : ℕ
   pub some : 1 ≤ total_weight (leave q task).runnable
   pub limited : is_lag sleeper.lag sleeper.nice sleeper.slice ≡ true
   pub joined : r.runnable
-      ≡ insert (leave q task).runnable task (record (fresh_entry (placement (leave q task) sleeper) sleeper.nice sleeper.slice) { slice = next })
+      ≡ insert (leave q task).runnable task
+      (record (fresh_entry ((placement (leave q task) sleeper) +ℤ pos past) sleeper.nice sleeper.slice) { slice = next })
 
 abbrev pub IsWithinTurn : Option ℕ → ℕ → Type 0
 IsWithinTurn None t = ⊥
@@ -57,7 +60,7 @@ course_by ns x q (Some Lowers) r may = record x { left = None }
 course_by ns x q (Some Yields) r may = record x { left = None }
 course_by ns x q (Some (Gains task)) r may = record {
   left = if is_running q.running task then None else x.left;
-  late = x.late + (weight_of may.sleeper.nice * reach_past ns x.late (leave q task).runnable may.sleeper - 1024 * ns);
+  late = x.late + (weight_of may.sleeper.nice * (reach_past ns x.late (leave q task).runnable may.sleeper + may.past) - 1024 * ns);
   joined = task ∷ x.joined;
 }
 course_by ns x q change r may = x

@@ -3,7 +3,7 @@ use Rattle.std.specs.Prelude.{◌≡◌, ℕ, zero, ◌<◌, ◌==◌, if◌then
 use Rattle.std.specs.FinMap.{get, contains_key}
 use Rattle.eevdf_queue.specs.{State.State, declared.entry.Entry.Entry, declared.sleeper.Sleeper.Sleeper}
 use Rattle.eevdf_ops.specs.{declared.deeds.Deed.Deed, declared.deeds.Answer.Answer}
-use Rattle.eevdf_ops.specs.declared.deeds.Deed.TheVariants.{Tick, Pick, Yield, Sleep, Wake, Pull, Renice, End, Rebase}
+use Rattle.eevdf_ops.specs.declared.deeds.Deed.TheVariants.{Tick, Pick, Yield, Sleep, Doze, Wake, Pull, Renice, End, Rebase}
 use Rattle.eevdf_ops.specs.declared.deeds.Deed.TheVariants as deed
 use Rattle.eevdf_ops.specs.declared.deeds.Answer.TheVariants.{Charged, Picked, Slept, Ended, Rebased, Yielded, Woken, Reniced, Pulled}
 use Rattle.eevdf_ops.specs.declared.deeds.Answer.TheVariants as answer
@@ -27,6 +27,7 @@ abbrev pub own_change : State → Deed → Answer → Option Change
 own_change q (Tick at ns) (Charged task resched) = Some (Ticks ns)
 own_change q (Pick at) (Picked task) = Some Picks
 own_change q (Sleep at task) (Slept lag) = Some (Loses task)
+own_change q (Doze at task) (Slept lag) = Some (Loses task)
 own_change q (End at task) Ended = Some (Loses task)
 own_change q (Rebase at) (Rebased (pos zero)) = None
 own_change q (Rebase at) (Rebased by) = Some Lowers

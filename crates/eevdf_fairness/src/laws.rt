@@ -43,14 +43,16 @@ pub fn leavings_keep_fair()
     eevdf_queue::laws::pick_of_nobody();
 }
 
-/// A sleep that is done, and a pull that is done, at the CPU that the task is pulled from, leave the runnable tasks and who runs as the
-/// leaving of that task does. Where a task falls asleep at another CPU, its home, nobody leaves there.
+/// A sleep and a doze that are done, and a pull that is done, at the CPU that the task is pulled from, leave the runnable tasks, who runs,
+/// and the times that a rebase reads as the leaving of that task does. Where a task falls asleep at another CPU, its home, nobody leaves
+/// there.
 pub fn deeds_leave()
     ensures { DeedsLeave }
 {}
 
-/// Turns, leavings and rebases read of a queue the runnable tasks and who runs, and no more: from two queues that have the same ones they
-/// come to two that have the same ones. So it doesn't matter to them who sleeps there.
+/// Turns and leavings read of a queue the runnable tasks and who runs, and no more: from two queues that have the same ones they come to two
+/// that have the same ones. Rebases read two times besides: the one that stands, where nothing is runnable, and the shift, which is why one
+/// may be refused. So it doesn't matter to any of them who sleeps there.
 pub fn runnable_tasks_decide()
     ensures { RunnableTasksDecide }
 {}
@@ -90,7 +92,7 @@ pub fn leavings_heal()
 }
 
 /// A wake, a pull and a renice that are done let a task join the others, where others are runnable and the lag is within its limit, as
-/// `Queue::sleeper` and `Parcel::lag` say of one that wakes or is pulled.
+/// `Queue::sleeper` and `Parcel::lag` say of one that wakes or is pulled, and where one that wakes has no place, as `Queue::place_of` says.
 pub fn deeds_join()
     ensures { DeedsJoin }
 {}
@@ -141,10 +143,10 @@ pub fn healed_turns_give_shares()
     eevdf_queue::laws::pick_of_nobody();
 }
 
-/// A rebase each day keeps a queue in range, however many days follow and whatever its tasks weigh: where a fixed set of tasks takes turns,
-/// that is picks and ticks alone, from a fresh start within 2^58 of the time 0 on, a turn runs for at most a second, and a day's turns for
-/// 86400 seconds in all, no tick of at most a second is ever answered that it would be out of range, and each rebase makes the virtual
-/// time 0.
+/// A rebase each day keeps a queue in range, for 2^58 days and whatever its tasks weigh: where a fixed set of tasks takes turns, that is
+/// picks and ticks alone, from a fresh start within 2^58 of the time 0 on, with a shift within 2^119, a turn runs for at most a second, and
+/// a day's turns for 86400 seconds in all, no tick of at most a second is ever answered that it would be out of range, and each rebase makes
+/// the virtual time 0.
 pub fn days_stay_in_range()
     ensures { DaysStayInRange }
 {
@@ -182,9 +184,10 @@ pub fn one_cpu_is_fair_anywhere()
     turns_are_fair_anywhere();
 }
 
-/// And deeds of all CPUs, of which those that change one CPU's runnable tasks or who runs there are its turns, sleeps of who runs there,
-/// pulls from there and rebases, leave both as these steps do by themselves. What is refused, finds nothing or changes sleeping tasks alone
-/// may stand anywhere among them, whoever decides it. A task that leaves in the middle of a turn counts as one that leaves after it.
+/// And deeds of all CPUs, of which those that change one CPU's runnable tasks or who runs there are its turns, sleeps and dozes of who runs
+/// there, pulls from there and rebases, leave both as these steps do by themselves. What is refused, finds nothing or changes sleeping
+/// tasks alone may stand anywhere among them, whoever decides it. A task that leaves in the middle of a turn counts as one that leaves after
+/// it.
 pub fn steps_of_one_cpu()
     ensures { StepsOfOneCpu }
 {}
@@ -196,7 +199,8 @@ pub fn one_cpu_stays_fair()
     leavings_keep_fair();
 }
 
-/// And where one task joins then, by a wake or a pull, and the CPU picks anew, the others are as fair as a join leaves them.
+/// And where one task joins then, by a pull or by a wake of a task that has no place, and the CPU picks anew, the others are as fair as a
+/// join leaves them.
 pub fn one_cpu_join_keeps_fair()
     ensures { OneCpuJoinKeepsFair }
 {
@@ -204,7 +208,8 @@ pub fn one_cpu_join_keeps_fair()
 }
 
 /// A wake, a pull, a renice and a set of a runnable task that are done let it join the others, where others are runnable, as the next law
-/// has it; a set may give the request after the next one another slice. Fresh starts, and a task alone, are level, as that law has it.
+/// has it: at its placement, and by a wake so far past it as its place is, where it dozes; a set may give the request after the next one
+/// another slice. Fresh starts, and a task alone, are level, as that law has it.
 pub fn deeds_join_others()
     ensures joins { DeedsJoinOthers }
     ensures level { StartsAreLevel }

@@ -88,7 +88,7 @@ pub fn rebased_cpu_is_fair_anywhere()
 /// turns and, at the end of each day, a rebase, none of its deeds is answered that it would be out of range, and each of its rebases makes
 /// the virtual time 0. So it is from a fresh start within 2^58 of the time 0 on, of at most 1024 tasks with slices of at most 100 ms, where a
 /// turn runs for at most a second, and a day's turns for 86400 seconds in all. What the other CPUs do to their own queues doesn't matter,
-/// but no task of this CPU may be pulled from there, and none may fall asleep or end that has its home there.
+/// but no task of this CPU may be pulled from there, and none may fall asleep, doze off or end that has its home there.
 pub fn one_cpu_stays_in_range()
     ensures { OneCpuStaysInRange }
 {
