@@ -50,7 +50,7 @@ class Draws:
 
 def make_call(fair, draws):
     """Makes a drawn call, and answers its kind."""
-    task, kind = draws.below(TASKS), draws.below(16)
+    task, kind = draws.below(TASKS), draws.below(19)
     if kind < 5:
         fair.tick(draws.tick())
         return "tick"
@@ -68,8 +68,16 @@ def yield_now(fair, _task, _draws):
 
 def sleep(fair, _task, _draws):
     if fair.queue.running is not None:
-        left = fair.queue.leave(fair.queue.running)
-        fair.queue.put_asleep(left.task, left.nice, left.length, left.lag)
+        fair.queue.sleep(fair.queue.running)
+
+
+def doze(fair, _task, _draws):
+    if fair.queue.running is not None:
+        fair.queue.doze()
+
+
+def adopt(fair, task, _draws):
+    fair.adopt(task)
 
 
 def wake(fair, task, _draws):
@@ -98,9 +106,15 @@ def end(fair, task, _draws):
         fair.queue.leave(task)
     else:
         fair.queue.asleep.pop(task, None)
+        fair.queue.places.pop(task, None)
 
 
-CALLS = (("yield", yield_now), ("sleep", sleep), ("wake", wake), ("renice", renice), ("set", set_both), ("begin", begin), ("end", end))
+def measure(fair, _task, _draws):
+    fair.measure()
+
+
+CALLS = (("yield", yield_now), ("sleep", sleep), ("wake", wake), ("renice", renice), ("set", set_both), ("begin", begin), ("end", end),
+         ("doze", doze), ("adopt", adopt), ("measure", measure))
 
 
 class Comparison:

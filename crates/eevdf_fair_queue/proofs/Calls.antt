@@ -1,31 +1,24 @@
 -- What each call of a queue touches.
 use Rattle.std.proofs.Common.{◌≡◌, ℕ, Bool, true, false, cond, Option, Some, None, Result, Ok, Err, refl, sym, ap, ◌∙◌}
-use Rattle.std.specs.Prelude.{ℤ, pos}
-use Rattle.std.specs.{FinMap.get, FinMap.insert, FinMap.empty}
+use Rattle.std.specs.Prelude.{ℤ}
+use Rattle.std.specs.FinMap.{get, insert}
 use Rattle.eevdf_queue.specs.{declared.entry.Entry.Entry, declared.sleeper.Sleeper.Sleeper, declared.refusal.Refusal.Refusal, State.State, State.Contents}
 use Rattle.eevdf_queue.specs.declared.refusal.Refusal.TheVariants.{Present}
 use Rattle.eevdf_queue.specs.declared.answers.ReniceAnswer.{ReniceAnswer}
 use Rattle.eevdf_queue.specs.declared.answers.ReniceAnswer.TheVariants as reniced
-use Rattle.eevdf_queue.specs.{Moves.admit, Moves.with_runnable, Placing.put, Wake.wake, Wake.wake_to, Wake.wake_sleeper}
+use Rattle.eevdf_queue.specs.{Moves.admit, Moves.with_runnable, Placing.put, Wake.wake}
 use Rattle.eevdf_queue.specs.{Renice.renice, Renice.renice_to, Renice.renice_entry, Renice.reniced as rejoining, Leaving.leave}
 use Rattle.eevdf_queue.specs.{SliceChange.set_entry_slice, SliceChange.set_sleeper_slice, Attributes.set, Attributes.set_reniced, Attributes.set_sleeper}
 use Rattle.eevdf_queue.specs.{Trying.is_here, Trying.tried, Trying.unless_out_of_range}
-use Rattle.eevdf_dozes.specs.{Places.PlacedQueue, Calls.Touches}
-use Rattle.eevdf_dozes.proofs.Touching.{TouchesQueue, joined_touches, put_touches, calls_touch_one}
+use Rattle.eevdf_dozes.specs.Calls.{Touches}
+use Rattle.eevdf_dozes.proofs.{Dozing.wake_is, Touching.calls_touch_one}
 use Rattle.eevdf_fair_queue.proofs.Settled.{IsOfOne}
-
--- a queue beside which no place is kept
-abbrev placed : State → PlacedQueue
-placed q = record { queue = q; places = empty; shift = pos 0 }
 
 same_runner : (running now : Option ℕ) (t : ℕ) → now ≡ running → now ≡ Some t → running ≡ Some t
 same_runner running now t same is = sym same ∙ is
 
-nothing : (task : ℕ) (q : State) → IsOfOne task q q
-nothing task q = record { others = λ t other. refl; runs = λ t runs. runs; due = λ due. due }
-
-by_queue : (task : ℕ) (q r : State) → TouchesQueue task q r → r.running ≡ q.running → IsOfOne task q r
-by_queue task q r h same = record { others = h.runnable; runs = λ t. same_runner q.running r.running t same; due = h.due }
+by_touch : (task : ℕ) (q r : State) → Touches task q r → r.running ≡ q.running → IsOfOne task q r
+by_touch task q r h same = record { others = h.runnable; runs = λ t. same_runner q.running r.running t same; due = h.due }
 
 -- ---- a task joins
 put_running : (q r : State) (task : ℕ) (o : Option Entry) → with_runnable q task o ≡ Some r → r.running ≡ q.running
@@ -36,10 +29,10 @@ put_running q r task (Some e) h =
 
 pub admitted : (q r : State) (p : Contents) → admit q p ≡ Some r → IsOfOne p.task q r
 admitted q r p h =
-    by_queue p.task q r (put_touches q r p.task (record { lag = p.lag; nice = p.nice; slice = p.slice }) p.start h) (put_running q r p.task _ h)
+    by_touch p.task q r (calls_touch_one.is_admitted q p r h) (put_running q r p.task _ h)
 
 pub joined : (q r : State) (task : ℕ) (s : Sleeper) → put q task s ≡ Some r → IsOfOne task q r
-joined q r task s h = by_queue task q r (joined_touches q r task s h) (put_running q r task _ h)
+joined q r task s h = by_touch task q r (calls_touch_one.joins q task s r h) (put_running q r task _ h)
 
 -- where a task has joined that was tried to
 from_some : (o : Option State) (r : State) → unless_out_of_range o ≡ Ok r → o ≡ Some r
@@ -61,18 +54,11 @@ pub try_joined : (q r : State) (task : ℕ) (s : Sleeper) → tried q task (put 
 try_joined q r task s h = joined q r task s (has_joined q r task (put q task s) h)
 
 -- ---- a wake
-woken_by : (q : State) (task : ℕ) (s : Sleeper) (o : Option State) → put q task s ≡ o → IsOfOne task q (wake_to q task o).1
-woken_by q task s None is = nothing task q
-woken_by q task s (Some r) is =
-    let h : IsOfOne task q r = joined q r task s is in
-    record { others = h.others; runs = h.runs; due = h.due }
-
-wake_by : (q : State) (task : ℕ) (o : Option Sleeper) → IsOfOne task q (wake_sleeper q task o).1
-wake_by q task None = nothing task q
-wake_by q task (Some s) = woken_by q task s (put q task s) refl
+wake_running : (q : State) (task : ℕ) → (wake q task).1.running ≡ q.running
+wake_running q task = wake_is (λ r. r.running ≡ q.running) q task refl (λ s asleep. refl)
 
 pub woken : (q : State) (task : ℕ) → IsOfOne task q (wake q task).1
-woken q task = wake_by q task (get q.asleep task)
+woken q task = by_touch task q (wake q task).1 (calls_touch_one.wakes q task) (wake_running q task)
 
 -- ---- another level, another slice
 to_running : (q : State) (o : Option State) → (renice_to q o).1.running ≡ q.running
@@ -86,11 +72,8 @@ by_running q task nice (Some e) = to_running q (put (leave q task) task (rejoini
 renice_running : (q : State) (task : ℕ) (nice : ℤ) → (renice q task nice).1.running ≡ q.running
 renice_running q task nice = by_running q task nice (get q.runnable task)
 
-by_touch : (task : ℕ) (q r : State) → Touches task (placed q) (record { queue = r; places = empty; shift = pos 0 }) → r.running ≡ q.running → IsOfOne task q r
-by_touch task q r h same = record { others = h.runnable; runs = λ t. same_runner q.running r.running t same; due = h.due }
-
 pub changed_level : (q : State) (task : ℕ) (nice : ℤ) → IsOfOne task q (renice q task nice).1
-changed_level q task nice = by_touch task q (renice q task nice).1 (calls_touch_one.renices (placed q) task nice) (renice_running q task nice)
+changed_level q task nice = by_touch task q (renice q task nice).1 (calls_touch_one.renices q task nice) (renice_running q task nice)
 
 slice_asleep_running : (q : State) (task slice : ℕ) (o : Option Sleeper) → (set_sleeper_slice q task slice o).running ≡ q.running
 slice_asleep_running q task slice None = refl
@@ -112,5 +95,5 @@ set_running_by q task nice slice reniced.Range r h = refl
 
 pub changed_both : (q : State) (task : ℕ) (nice : ℤ) (slice : ℕ) → IsOfOne task q (set q task nice slice).1
 changed_both q task nice slice =
-    by_touch task q (set q task nice slice).1 (calls_touch_one.is_set (placed q) task nice slice)
+    by_touch task q (set q task nice slice).1 (calls_touch_one.is_set q task nice slice)
     (set_running_by q task nice slice (renice q task nice).0 (renice q task nice).1 (renice_running q task nice))

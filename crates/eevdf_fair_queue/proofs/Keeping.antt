@@ -1,10 +1,11 @@
 -- Forms in which the functions of a fair queue use what keeps it fair.
 use Rattle.std.proofs.Common.{◌≡◌, ℕ, Bool, true, false, cond, Option, Some, None, Result, Ok, Err, refl, sym, ap, ◌∙◌, subst}
 use Rattle.std.specs.Prelude.{ℤ, MatchResult}
-use Rattle.std.specs.{Ordering.nat_cmp, Ordering.eq_by_cmp, Cmp.nat_cmp_total, FinMap.get, FinMap.remove, FinMap.get-remove}
+use Rattle.std.specs.{Ordering.nat_cmp, Ordering.eq_by_cmp, Cmp.nat_cmp_total, FinMap.get, FinMap.contains_key, FinMap.remove, FinMap.get-remove}
 use Rattle.eevdf_queue.specs.{declared.entry.Entry.Entry, declared.sleeper.Sleeper.Sleeper, State.State, State.Contents, Kept.IsKept, Laws.PickIsFirst, Laws.PickOfNobody}
-use Rattle.eevdf_queue.specs.{Attributes.begin, Attributes.begin_sleeper, Leaving.leave, Leaving.leave_running, Leaving.leave_asleep, Leaving.without_entry, Leaving.without_sleeper, Leaving.stopped, Candidate.is_running, Moves.put_asleep}
-use Rattle.eevdf_fair_queue.specs.{declared.bounds.Bounds.Bounds, declared.bounds.Mark.Mark, Bounds.settled}
+use Rattle.eevdf_queue.specs.{Attributes.begin, Attributes.begin_sleeper, Leaving.leave, Leaving.leave_running, Leaving.leave_asleep, Leaving.without_entry, Leaving.without_sleeper, Leaving.stopped, Leaving.carried_running, Leaving.nobody_runs, Candidate.is_running, Moves.put_asleep}
+use Rattle.eevdf_queue.specs.{Doze.dozed, Doze.doze, Doze.put_dozing, Pick.picked_by, Pick.adopted}
+use Rattle.eevdf_fair_queue.specs.{declared.bounds.Bounds.Bounds, declared.bounds.Mark.Mark, Bounds.settled, Bounds.adopted as unpicked}
 use Rattle.eevdf_fair_queue.specs.Fair.{IsFair, mark_of}
 use Rattle.eevdf_fair_queue.proofs.{Settled.IsOfOne, Settled.settles}
 
@@ -94,3 +95,30 @@ leave_running_keeps q b task fair =
     by : (c : Bool) → IsFair (cond c (leave q task) q) b
     by true = leave_keeps q b task fair
     by false = fair
+
+pub doze_keeps : (q : State) (b : Bounds) (task : ℕ) → IsFair q b → IsFair (doze q task) b
+doze_keeps q b task fair =
+    by (carried_running q task)
+  where
+    by : (o : Option Contents) → IsFair (dozed q task o) b
+    by None = fair
+    by (Some p) = fewer (leave_running q task) (put_dozing (leave_running q task) p) b (leave_running_keeps q b task fair) (λ t x at. at) (λ t runs. runs)
+
+-- who runs may be any runnable task
+pub adopt_keeps : (q : State) (b : Bounds) (task : ℕ) (here : Bool) → here ≡ contains_key q.runnable task → IsFair q b
+    → IsFair (adopted q task) (unpicked b here)
+adopt_keeps q b task here is fair =
+    subst (λ (c : Bool). IsFair (cond c (picked_by q (Some task)) q) (unpicked b here)) is (by here)
+  where
+    by : (c : Bool) → IsFair (cond c (picked_by q (Some task)) q) (unpicked b c)
+    by true = record { due = fair.due; longest = fair.longest; near = fair.near; turn = λ turn none. absurd (cc) }
+    by false = fair
+
+pub dozing_keeps : (q : State) (b : Bounds) (p : Contents) → IsFair q b → IsFair (put_dozing q p) b
+dozing_keeps q b p fair = fewer q (put_dozing q p) b fair (λ t x at. at) (λ t runs. runs)
+
+nobody : {A : Type 0} (t : ℕ) → None ≡ Some t → A
+nobody t is = absurd (cc)
+
+pub stop_keeps : (q : State) (b : Bounds) → IsFair q b → IsFair (nobody_runs q) b
+stop_keeps q b fair = fewer q (nobody_runs q) b fair (λ t x at. at) (λ t is. nobody t is)

@@ -22,7 +22,7 @@ greater_other : (v d a b : ℤ) → v ≤ℤ (d +ℤ a) → v ≤ℤ (d +ℤ int
 greater_other v d a b h = omega (arith, ints, clamps, h)
 
 -- who is near a deadline isn't past it by more than a bound that is reckoned from that deadline or from an earlier time
-within_bound : (v front d x longest : ℤ) → v ≤ℤ pos (2 ^ 60) → neg_ℤ (pos (2 ^ 60)) ≤ℤ d → x ≤ℤ d → (v ≤ℤ front) ⊎ (v ≤ℤ (d +ℤ longest))
+pub within_bound : (v front d x longest : ℤ) → v ≤ℤ pos (2 ^ 60) → neg_ℤ (pos (2 ^ 60)) ≤ℤ d → x ≤ℤ d → (v ≤ℤ front) ⊎ (v ≤ℤ (d +ℤ longest))
     → v ≤ℤ (d +ℤ int_max longest (held (front -ℤ x)))
 within_bound v front d x longest little low h (inl n) =
     greater v d longest (held (front -ℤ x)) (held_past v d (front -ℤ x) little low (from_front v front d x n h))
@@ -56,7 +56,7 @@ time_before q t e here is =
     (floor_within (total_moment q.runnable) e.v (total_weight q.runnable) (weighs q.runnable t e here) (omega (arith, ints, is)))
 
 -- so the lesser one of it and of the pick's deadline is before each deadline
-before_by : (q : State) (p : ℕ) (pick : IsPick q.runnable p) → NoneIsPastDue q.runnable → (t : ℕ) (e : Entry) → get q.runnable t ≡ Some e
+pub before_by : (q : State) (p : ℕ) (pick : IsPick q.runnable p) → NoneIsPastDue q.runnable → (t : ℕ) (e : Entry) → get q.runnable t ≡ Some e
     → (c : Bool) → is_eligible q.runnable e ≡ c → int_min (virtual_time q) pick.entry.d ≤ℤ e.d
 before_by q p pick due t e here true is =
     then (int_min (virtual_time q) pick.entry.d) pick.entry.d e.d (lesser_other (virtual_time q) pick.entry.d)

@@ -6,3 +6,7 @@ pub mod Running
 pub mod Keeping
 pub mod Empty
 pub mod Late
+pub mod Arrivals
+pub mod InTime
+pub mod Measured
+pub mod Leavings

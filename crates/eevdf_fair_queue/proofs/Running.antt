@@ -11,14 +11,14 @@ use Rattle.eevdf_queue.specs.declared.answers.YieldAnswer.TheVariants as yields
 use Rattle.eevdf_queue.specs.declared.answers.YieldAnswer.TheVariants.{Yielded}
 use Rattle.eevdf_weight.specs.Limits.{is_in_range}
 use Rattle.eevdf_queue.specs.{Moves.fresh_entry, Tick.is_used_up}
-use Rattle.eevdf_queue.specs.{Pick.pick_of, Pick.after_pick, Tick.charged, Tick.tick, Tick.aged, Yield.yielded, Yield.yield_now, Yield.yield_to, Yield.yield_entry, Yield.yield_running}
+use Rattle.eevdf_queue.specs.{Pick.pick_of, Pick.after_pick, Tick.charged, Tick.tick, Tick.aged, Tick.entry_of_runner, Tick.running_entry, Yield.yielded, Yield.yield_now, Yield.yield_to, Yield.yield_entry, Yield.yield_running}
 use Rattle.eevdf_queue.specs.{Rebase.rebase, Rebase.rebased, Rebase.can_rebase, Rebase.lowered_entry, Rebase.lowered_tasks, Sums.virtual_time}
 use Rattle.eevdf_queue.proofs.LoweredMaps.{get-lowered}
 use Rattle.eevdf_fairness.proofs.Growing.{get_here, found_at_after, charged_grown}
 use Rattle.eevdf_dozes.specs.Stretches.{NoneIsPastDue}
 use Rattle.eevdf_dozes.proofs.PicksInTime.{same_tasks, runner_in_time, IsInTime}
 use Rattle.eevdf_dozes.proofs.Ticking.{tick_cases}
-use Rattle.eevdf_fair_queue.specs.{declared.bounds.Bounds.Bounds, Bounds.held, Bounds.picked, Bounds.ticked, Bounds.ticked_by, Bounds.charged_to, Bounds.lowered}
+use Rattle.eevdf_fair_queue.specs.{declared.bounds.Bounds.Bounds, Bounds.held, Bounds.picked, Bounds.ticked, Bounds.ticked_by, Bounds.charged_to, Bounds.charged_from, Bounds.lowered}
 use Rattle.eevdf_fair_queue.specs.Fair.{IsNear, AreNear, IsTurn, IsFair, charged_by}
 use Rattle.eevdf_fair_queue.proofs.Nearness.{same_or_other, small, IsSmall, held_above, held_past, held_some, stays_near, near_later}
 
@@ -218,6 +218,20 @@ pub tick_keeps : (q : State) (b : Bounds) (ns : ℕ) → IsKept q → IsFair q b
 tick_keeps q b ns kept fair =
     tick_cases (λ z. AreInRange (z.1).runnable → IsFair (z.1) (charged_by b ns (z.0) (z.1))) q ns (λ in_range. fair) (λ in_range. fair)
     (λ p e resched runs here in_range. charge_fair q b ns p e resched kept fair runs here in_range)
+
+-- the bounds after a charge, by the entry before it
+tallied : (b : Bounds) (ns : ℕ) (e : Entry) → charged_to b ns (Some (charged e ns)) ≡ charged_from b ns (Some e)
+tallied b ns e =
+    ap (λ (n : ℤ). ticked b (pos (charge_of ns (weight_of n))) (charged e ns).v) (charged_grown e ns).same_nice
+    ∙ ap (ticked b (pos (charge_of ns (weight_of e.nice)))) (charged_runtime e ns)
+
+pub charged_before : (q : State) (b : Bounds) (ns p : ℕ) (resched : Bool) → (tick q ns).0 ≡ Charged p resched
+    → charged_by b ns (tick q ns).0 (tick q ns).1 ≡ charged_from b ns (running_entry q)
+charged_before q b ns p resched =
+    tick_cases (λ z. (z.0) ≡ Charged p resched → charged_by b ns (z.0) (z.1) ≡ charged_from b ns (running_entry q)) q ns (λ is. cc) (λ is. cc)
+    (λ t e r runs here is.
+    ap (charged_to b ns) (get_here q.runnable t (charged e ns)) ∙ tallied b ns e
+    ∙ sym (ap (charged_from b ns) (ap (entry_of_runner q) runs ∙ here)))
 
 -- ---- a yield
 module _ (q : State) (b : Bounds) (p : ℕ) (e : Entry) (fair : IsFair q b) (here : get q.runnable p ≡ Some e) where

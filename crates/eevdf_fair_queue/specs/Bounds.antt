@@ -2,7 +2,7 @@
 use Rattle.std.specs.Prelude.{ℕ, ◌^◌, ℤ, pos, neg_ℤ, ◌+ℤ◌, ◌-ℤ◌, Bool, int_lt, if◌then◌else◌, Option, Some, None}
 use Rattle.std.specs.Int.{w64, int_max, saturate_signed}
 use Rattle.eevdf_weight.specs.{Weight.weight_of, Charge.charge_of}
-use Rattle.eevdf_queue.specs.{declared.entry.Entry.Entry}
+use Rattle.eevdf_queue.specs.{declared.entry.Entry.Entry, Tick.aged}
 use Rattle.eevdf_fair_queue.specs.{declared.bounds.Bounds.Bounds, declared.bounds.Mark.Mark}
 
 -- a sum as 64 bits have it: one that they can't hold is the greatest or the least number
@@ -37,6 +37,15 @@ ticked b charge v = ticked_by b charge v b.turn
 abbrev pub charged_to : Bounds → ℕ → Option Entry → Bounds
 charged_to b ns None = b
 charged_to b ns (Some e) = ticked b (pos (charge_of ns (weight_of e.nice))) e.v
+
+-- the same by the entry of whoever runs, as it was before the charge
+abbrev pub charged_from : Bounds → ℕ → Option Entry → Bounds
+charged_from b ns None = b
+charged_from b ns (Some e) = ticked b (pos (charge_of ns (weight_of e.nice))) (aged e ns)
+
+-- a task runs that wasn't picked
+abbrev pub adopted : Bounds → Bool → Bounds
+adopted b is = if is then record b { turn = None } else b
 
 -- a task that stands at an entry now, beside the mark of before: its deadline may be earlier, and its virtual runtime later
 abbrev pub raised_where : Bool → ℤ → Bounds → Bounds

@@ -1,9 +1,9 @@
 -- How late a request is.
-use Rattle.std.specs.Prelude.{◌≡◌, ℕ, ℤ, pos, ◌+ℤ◌, Option, Some, None}
+use Rattle.std.specs.Prelude.{◌≡◌, ℕ, ◌^◌, ℤ, pos, neg_ℤ, ◌+ℤ◌, ◌≤ℤ◌, Option, Some, None}
 use Rattle.std.specs.{FinMap.get, Int.int_min, Option.option_and_then}
 use Rattle.eevdf_queue.specs.{declared.entry.Entry.Entry, State.State, Sums.virtual_time, Pick.pick_of}
 use Rattle.eevdf_dozes.specs.Punctual.{IsTimeWithin}
-use Rattle.eevdf_fair_queue.specs.{declared.bounds.Bounds.Bounds, Bounds.late_by}
+use Rattle.eevdf_fair_queue.specs.{declared.bounds.Bounds.Bounds, declared.bounds.Mark.Mark, Bounds.late_by, Bounds.settled_at, Fair.IsNear}
 
 -- the exact virtual time is past the deadline of this task by no more than a number
 abbrev pub IsLateBy : State → ℕ → ℤ → Type 0
@@ -21,3 +21,9 @@ bound_by b time (Some e) = late_by b (int_min time e.d)
 -- the time is the virtual time: no deadline is before the lesser one
 abbrev pub lateness_bound : State → Bounds → ℤ
 lateness_bound q b = bound_by b (virtual_time q) (option_and_then (get q.runnable) (pick_of q.runnable))
+
+-- a task that comes to a virtual runtime near a deadline, and isn't due before the mark, leaves the bound of that deadline as it is
+abbrev pub NearArrivalsKeepBounds : Type 0
+NearArrivalsKeepBounds =
+    (b : Bounds) (m : Mark) (e : Entry) (deadline : ℤ) → pos 0 ≤ℤ b.longest → e.v ≤ℤ pos (2 ^ 60) → neg_ℤ (pos (2 ^ 60)) ≤ℤ deadline
+    → m.d ≤ℤ e.d → IsNear b e.v deadline → late_by (settled_at b (Some m) e) deadline ≡ late_by b deadline

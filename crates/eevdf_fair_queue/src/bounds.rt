@@ -2,9 +2,17 @@
 
 ghost use Rattle.std.specs.Prelude.{◌≡◌};
 ghost use Rattle.std.specs.Int.{int_max, int_min};
+ghost use Rattle.std.specs.FinMap as map;
+ghost use Rattle.eevdf_queue.specs.State.{State};
 ghost use Rattle.eevdf_fair_queue.specs.Bounds as bounds;
+ghost use Rattle.eevdf_fair_queue.specs.Fair.{IsFair, mark_of};
 
-use eevdf_queue::Entry;
+mod arrivals;
+mod lateness;
+mod measuring;
+mod turns;
+
+use eevdf_queue::{Entry, Queue, TaskId};
 
 /// How far the runnable tasks of a queue can be past one another's deadlines, in virtual time: no virtual runtime is past the front
 /// and, by more than the longest turn, past any deadline.
@@ -12,7 +20,8 @@ use eevdf_queue::Entry;
 pub struct Bounds {
     /// A virtual time that some task may have come to out of its turn. Nobody who stands before it is late.
     pub front: i64,
-    /// What the longest turn was charged, since the queue was empty.
+    /// What the longest turn was charged since the queue was empty, or since the bounds were measured; no less than by how much a task was past
+    /// a deadline then.
     pub longest: i64,
     /// What was charged since the last pick, as long as the task picked is past no deadline by more than that: `None` from the moment on
     /// at which another task comes before it.
@@ -29,10 +38,31 @@ pub struct Mark {
     pub d: i64,
 }
 
+impl Mark {
+    /// Where a task stands, or else the virtual time and the deadline of the pick.
+    pub fn of(queue: &Queue, task: TaskId) -> Option<Mark>
+        ensures { result ≡ mark_of queue.now.state task }
+    {
+        if let Some(entry) = queue.entry(task) {
+            return Some(Mark {
+                v: entry.v,
+                d: entry.d,
+            });
+        }
+        let first = queue.peek()?;
+        let entry = queue.entry(first)?;
+        Some(Mark {
+            v: queue.floor_time(),
+            d: entry.d,
+        })
+    }
+}
+
 impl Bounds {
-    /// Those of a queue without tasks.
-    pub(crate) fn fresh() -> Bounds
-        ensures { result ≡ bounds.fresh }
+    /// Those of a queue in which nothing is runnable.
+    pub fn fresh() -> Bounds
+        ensures value { result ≡ bounds.fresh }
+        ensures fair { (q : State) → q.runnable ≡ map.empty → IsFair q result }
     {
         Bounds {
             front: i64::MIN,
@@ -42,7 +72,7 @@ impl Bounds {
     }
 
     /// Those after a pick, with which a turn begins.
-    pub(crate) fn picked(self) -> Bounds
+    pub fn picked(self) -> Bounds
         ensures { result ≡ bounds.picked self }
     {
         Bounds {
@@ -51,19 +81,31 @@ impl Bounds {
         }
     }
 
-    /// Those after the running task was charged, and has come to a virtual runtime.
-    pub(crate) fn ticked(self, charge: i64, v: i64) -> Bounds
-        ensures { result ≡ bounds.ticked self charge v }
+    /// Those where a task runs now that wasn't picked, if that is so.
+    pub fn adopted(self, is: bool) -> Bounds
+        ensures { result ≡ bounds.adopted self is }
+    {
+        if is {
+            Bounds { turn: None, ..self }
+        } else {
+            self
+        }
+    }
+
+    /// Makes them those after the running task was charged, and has come to a virtual runtime.
+    // in place, since a tick is to write no more than what it changes
+    fn charge(&mut self, charge: i64, v: i64)
+        ensures { self.new ≡ bounds.ticked self.old charge v }
     {
         match self.turn {
-            None => self.raised(v),
-            Some(turn) => self.grown(turn.saturating_add(charge)),
+            None => *self = self.raised(v),
+            Some(turn) => self.grow(turn.saturating_add(charge)),
         }
     }
 
     /// Those after a call that touched one task: where the task stands now, if it is runnable, beside the mark of before, which is
     /// `None` where nothing was runnable.
-    pub(crate) fn settled(self, mark: Option<Mark>, now: Option<Entry>) -> Bounds
+    pub fn settled(self, mark: Option<Mark>, now: Option<Entry>) -> Bounds
         ensures { result ≡ bounds.settled self mark now }
     {
         let Some(entry) = now else {
@@ -80,7 +122,7 @@ impl Bounds {
     }
 
     /// Those after all virtual times were lowered by a number.
-    pub(crate) fn lowered(self, by: i64) -> Bounds
+    pub fn lowered(self, by: i64) -> Bounds
         ensures { result ≡ bounds.lowered self by }
     {
         Bounds {
@@ -114,20 +156,17 @@ impl Bounds {
         if is { self.raised(v) } else { self }
     }
 
-    /// Those where the turn that goes on has come to a charge.
-    fn grown(self, turn: i64) -> Bounds
-        ensures { result ≡ bounds.grown self turn }
+    /// Makes them those where the turn that goes on has come to a charge.
+    fn grow(&mut self, turn: i64)
+        ensures { self.new ≡ bounds.grown self.old turn }
     {
-        Bounds {
-            longest: greater(self.longest, turn),
-            turn: Some(turn),
-            ..self
-        }
+        self.longest = greater(self.longest, turn);
+        self.turn = Some(turn);
     }
 }
 
 /// The lesser one of two numbers.
-pub(crate) fn lesser(a: i64, b: i64) -> i64
+fn lesser(a: i64, b: i64) -> i64
     ensures { result ≡ int_min a b }
 {
     if b < a { b } else { a }

@@ -2,15 +2,16 @@ ghost use Rattle.std.specs.Prelude.{◌≡◌};
 ghost use Rattle.std.specs.FinMap as map;
 ghost use Rattle.eevdf_queue.specs.State.{empty_state};
 ghost use Rattle.eevdf_fair_queue.specs.Bounds as bounds;
-ghost use Rattle.eevdf_fair_queue.specs.Fair.{IsFair, mark_of};
+ghost use Rattle.eevdf_fair_queue.specs.Fair.{IsFair};
 
 mod changes;
 mod lateness;
 mod leavings;
+mod measuring;
 mod turns;
 
-use crate::bounds::{Bounds, Mark};
-use eevdf_queue::{Queue, TaskId};
+use crate::bounds::Bounds;
+use eevdf_queue::Queue;
 use std::marker::Model;
 
 /// A run queue with the bounds that its calls keep. It is a [`Queue`], and each of its calls answers and leaves what that one's call
@@ -58,23 +59,5 @@ impl FairQueue {
         ensures fair { IsFair self.now.queue.state result }
     {
         self.bounds
-    }
-
-    /// Where a task stands, or else the virtual time and the deadline of the pick.
-    fn mark(&self, task: TaskId) -> Option<Mark>
-        ensures { result ≡ mark_of self.now.queue.state task }
-    {
-        if let Some(entry) = self.queue.entry(task) {
-            return Some(Mark {
-                v: entry.v,
-                d: entry.d,
-            });
-        }
-        let first = self.queue.peek()?;
-        let entry = self.queue.entry(first)?;
-        Some(Mark {
-            v: self.queue.floor_time(),
-            d: entry.d,
-        })
     }
 }

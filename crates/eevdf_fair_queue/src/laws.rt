@@ -1,7 +1,8 @@
 //! Laws of how late requests are, each the contract of a function that does nothing.
 
 ghost use Rattle.std.specs.Prelude.{◌≤ℤ◌};
-ghost use Rattle.eevdf_fair_queue.specs.Lateness.{NoneIsLaterThan};
+ghost use Rattle.eevdf_fair_queue.specs.Lateness.{NearArrivalsKeepBounds, NoneIsLaterThan};
+ghost use Rattle.eevdf_fair_queue.specs.Leavings.{LeavingsKeepBounds};
 
 use crate::fair_queue::FairQueue;
 
@@ -10,4 +11,17 @@ pub fn none_is_later_than_more(queue: &FairQueue, by: i64, more: i64)
     requires late { NoneIsLaterThan queue.now.queue.state by }
     requires more { by ≤ℤ more }
     ensures { NoneIsLaterThan queue.now.queue.state more }
+{}
+
+/// A doze, a yield, a new beginning and a stop, and each call by which a task leaves or is put to sleep, leave the bounds of a queue true. So
+/// these calls can be made of a queue with [`Bounds`](crate::Bounds) beside it as they are.
+pub fn leavings_keep_bounds()
+    ensures { LeavingsKeepBounds }
+{}
+
+/// A task that comes near a deadline, in order or by no more than the longest turn past it, and that isn't due before the mark, leaves the
+/// bound of that deadline as it is, however it comes.
+#[tactic(auto, using(crate::proofs::Arrivals::near_arrivals_keep_bounds))]
+pub fn near_arrivals_keep_bounds()
+    ensures { NearArrivalsKeepBounds }
 {}

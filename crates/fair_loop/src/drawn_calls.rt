@@ -8,10 +8,10 @@ use std::alloc::Global;
 /// The tasks that come and go have numbers below this.
 const TASKS: u64 = 12;
 
-/// Makes one drawn call: of 16 five are ticks, and four picks.
+/// Makes one drawn call: of 19 five are ticks, and four picks.
 pub fn make_call(queue: &mut FairQueue, alloc: Global, draws: &mut Draws) {
     let task = draws.task(TASKS);
-    match draws.below(16) {
+    match draws.below(19) {
         0..5 => {
             let _ = queue.tick(draws.tick());
         }
@@ -32,7 +32,12 @@ pub fn make_call(queue: &mut FairQueue, alloc: Global, draws: &mut Draws) {
             let _ = queue.set(task, draws.nice(), draws.slice());
         }
         14 => begin(queue, alloc, task, draws),
-        _ => end(queue, task),
+        15 => end(queue, task),
+        16 => doze(queue),
+        17 => {
+            let _ = queue.adopt(task);
+        }
+        _ => queue.measure(),
     }
 }
 
@@ -40,6 +45,13 @@ pub fn make_call(queue: &mut FairQueue, alloc: Global, draws: &mut Draws) {
 fn sleep(queue: &mut FairQueue) {
     if let Some(task) = queue.queue().running() {
         let _ = queue.sleep(task);
+    }
+}
+
+/// Whoever runs dozes.
+fn doze(queue: &mut FairQueue) {
+    if let Some(task) = queue.queue().running() {
+        let _ = queue.doze(task);
     }
 }
 

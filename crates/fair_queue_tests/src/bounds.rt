@@ -2,6 +2,7 @@
 
 use crate::kits::{admit, lateness, ns, task};
 use eevdf_fair_queue::{Bounds, FairQueue};
+use eevdf_queue::{Parcel, Queue, Refused};
 use eevdf_weight::{Nice, Slice};
 use std::alloc::Global;
 use std::process::Abort;
@@ -32,7 +33,8 @@ fn an_empty_queue_has_no_late_request(rt: HostRuntime) {
 }
 
 /// Two tasks with slices of 3 ms. Task 0 runs for 10 ms: the virtual time is 5000000, and task 1 is due at 3000000. It is late by 2000000,
-/// and can be by 10000000, if it ran next and stopped right before its deadline, while the other's turn counts whole.
+/// and can be by 10000000, if it ran next and stopped right before its deadline, while the other's turn counts whole: for 20 ms, by the
+/// load of two.
 #[test]
 fn a_long_turn_is_the_bound(rt: HostRuntime) {
     let rt = &rt;
@@ -44,6 +46,7 @@ fn a_long_turn_is_the_bound(rt: HostRuntime) {
     queue.tick(ns(rt, 6_000_000));
     assert_eq!(rt; lateness(rt, &queue), Some(2048 * 2_000_000));
     assert_eq!(rt; queue.lateness_bound(), 10_000_000);
+    assert_eq!(rt; queue.lateness_bound_in_time(), 20_000_000);
     assert_eq!(rt;
         queue.bounds(),
         Bounds {
@@ -94,4 +97,64 @@ fn a_queue_heals(rt: HostRuntime) {
         queue.tick(ns(rt, 1_000_000));
     }
     assert_eq!(rt; queue.lateness_bound(), 1_000_000);
+}
+
+/// A turn of 10 ms counts while the queue isn't empty, and no more where the bounds are measured: then task 0 is at 10000000 and task 1, which
+/// has run for three turns of 3 ms, at 9000000 with its deadline at 12000000, so that nobody is past a deadline.
+#[test]
+fn a_long_turn_is_forgotten_where_bounds_are_measured(rt: HostRuntime) {
+    let rt = &rt;
+    let mut queue = FairQueue::open();
+    join(rt, rt.alloc(), &mut queue, 0, Slice::default());
+    join(rt, rt.alloc(), &mut queue, 1, Slice::default());
+    assert_eq!(rt; queue.pick(), Some(task(rt, 0)));
+    queue.tick(ns(rt, 10_000_000));
+    for _turn in 0..3 {
+        assert_eq!(rt; queue.pick(), Some(task(rt, 1)));
+        queue.tick(ns(rt, 3_000_000));
+    }
+    assert_eq!(rt; queue.lateness_bound(), 10_000_000);
+    queue.measure();
+    assert_eq!(rt; queue.lateness_bound(), 0);
+    assert_eq!(rt;
+        queue.bounds(),
+        Bounds {
+            front: i64::MIN,
+            longest: 0,
+            turn: Some(3_000_000)
+        }
+    );
+}
+
+/// Bounds of a queue that nobody kept any of: task 0 has run for 10 ms, and task 1 is due at 3000000.
+#[test]
+fn any_queue_can_be_measured(rt: HostRuntime) {
+    let rt = &rt;
+    let mut queue = Queue::open();
+    for number in 0..2 {
+        let parcel = Parcel::make(
+            rt.alloc(),
+            task(rt, number),
+            Nice::default(),
+            Slice::default(),
+            0,
+        )
+        .expect(rt, "memory");
+        if let Err(Refused { parcel, reason: _ }) = queue.try_admit(parcel) {
+            parcel.retire();
+        }
+    }
+    assert_eq!(rt; queue.pick(), Some(task(rt, 0)));
+    queue.tick(ns(rt, 10_000_000));
+    assert_eq!(rt; Bounds::of(&Queue::open()), Bounds::fresh());
+    let queue = FairQueue::of(queue);
+    assert_eq!(rt;
+        queue.bounds(),
+        Bounds {
+            front: i64::MIN,
+            longest: 7_000_000,
+            turn: None
+        }
+    );
+    assert_eq!(rt; queue.lateness_bound(), 7_000_000);
 }

@@ -87,3 +87,63 @@ fn a_renice_is_late_by_nearly_the_bound(rt: HostRuntime) {
     queue.renice(task(rt, 0), Nice::new(-10).expect(rt, "nice"));
     expect_near(rt, &queue, 125_987_600_046, 13_205_907);
 }
+
+/// The same by a set, which gives the task another slice besides: its request is as long as it was.
+#[test]
+fn a_set_is_late_by_nearly_the_bound(rt: HostRuntime) {
+    let rt = &rt;
+    let mut queue = FairQueue::open();
+    join(rt, rt.alloc(), &mut queue, 1, (19, 100_000), 0);
+    queue.pick();
+    join(rt, rt.alloc(), &mut queue, 0, (-20, 3_000_000), 20_000_000);
+    let nice = Nice::new(-10).expect(rt, "nice");
+    queue.set(task(rt, 0), nice, Slice::new(5_000_000).expect(rt, "slice"));
+    expect_near(rt, &queue, 125_987_600_046, 13_205_907);
+}
+
+/// Task 0 is taken out with the greatest debt, as it falls asleep above, and put back once the heavy task has ended.
+#[test]
+fn one_that_is_put_back_is_late_by_nearly_the_bound(rt: HostRuntime) {
+    let rt = &rt;
+    let mut queue = FairQueue::open();
+    join(rt, rt.alloc(), &mut queue, 0, (0, 1_000_000), 0);
+    join(rt, rt.alloc(), &mut queue, 1, (19, 100_000), 0);
+    join(rt, rt.alloc(), &mut queue, 2, (-20, 100_000_000), 0);
+    assert_eq!(rt; queue.pick(), Some(task(rt, 0)));
+    queue.tick(ns(rt, 10_000_000));
+    let away = queue.detach_runnable(task(rt, 0)).expect(rt, "task 0");
+    assert_eq!(rt; away.lag(), -2_000_000);
+    if let Some(parcel) = queue.detach_runnable(task(rt, 2)) {
+        parcel.retire();
+    }
+    if let Err(Refused { parcel, reason: _ }) = queue.try_attach(away) {
+        parcel.retire();
+    }
+    expect_near(rt, &queue, 134_765_228_042, 131_706_668);
+}
+
+/// A task of nice -20 runs on to 10002230, as above, but it wasn't picked: where it has come to is the front then, 9002230 past the deadline.
+#[test]
+fn a_tick_of_one_that_is_adopted_is_late_by_nearly_the_bound(rt: HostRuntime) {
+    let rt = &rt;
+    let mut queue = FairQueue::open();
+    join(rt, rt.alloc(), &mut queue, 0, (-20, 3_000_000), 0);
+    join(rt, rt.alloc(), &mut queue, 1, (0, 1_000_000), 0);
+    assert_eq!(rt; queue.adopt(task(rt, 0)), true);
+    queue.tick(ns(rt, 867_000_000));
+    expect_near(rt, &queue, 798_022_937_030, 9_002_230);
+}
+
+/// It has run so far, dozes there, and wakes at its place: the other one is as late again.
+#[test]
+fn a_wake_at_a_place_is_late_by_nearly_the_bound(rt: HostRuntime) {
+    let rt = &rt;
+    let mut queue = FairQueue::open();
+    join(rt, rt.alloc(), &mut queue, 0, (-20, 3_000_000), 0);
+    join(rt, rt.alloc(), &mut queue, 1, (0, 1_000_000), 0);
+    assert_eq!(rt; queue.pick(), Some(task(rt, 0)));
+    queue.tick(ns(rt, 867_000_000));
+    queue.doze(task(rt, 0));
+    queue.wake(task(rt, 0));
+    expect_near(rt, &queue, 798_022_937_030, 10_002_230);
+}

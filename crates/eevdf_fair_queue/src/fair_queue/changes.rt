@@ -11,7 +11,6 @@ ghost use Rattle.eevdf_fair_queue.specs.Bounds as bounds;
 ghost use Rattle.eevdf_fair_queue.specs.Fair.{mark_of};
 
 use crate::fair_queue::FairQueue;
-use eevdf_queue::laws::{every_queue, pick_is_first, pick_of_nobody};
 use eevdf_queue::{Parcel, Refused, ReniceAnswer, SetAnswer, TaskId, WakeAnswer};
 use eevdf_weight::{Nice, Slice};
 
@@ -24,18 +23,12 @@ impl FairQueue {
             (λ refused. (tried self.old.queue.state parcel.task (moves.admit self.old.queue.state parcel)
             ≡ Err refused.reason)
             × (refused.parcel ≡ parcel) × (self.new.queue.state ≡ self.old.queue.state)) }
+        ensures pick_depth { self.new.queue.pick_depth ≡ self.old.queue.pick_depth }
         ensures bounds { self.new.bounds ≡ bounds.settled self.old.bounds
             (mark_of self.old.queue.state parcel.task)
             (map.get self.new.queue.state.runnable parcel.task) }
     {
-        pick_is_first();
-        pick_of_nobody();
-        every_queue(&self.queue);
-        let task = parcel.task();
-        let mark = self.mark(task);
-        let result = self.queue.try_admit(parcel);
-        self.bounds = self.bounds.settled(mark, self.queue.entry(task));
-        result
+        self.bounds.try_admit(&mut self.queue, parcel)
     }
 
     /// Makes a task runnable with its lag as [`Queue::try_attach`](eevdf_queue::Queue::try_attach) does.
@@ -46,65 +39,44 @@ impl FairQueue {
             (λ refused. (tried self.old.queue.state parcel.task
             (put self.old.queue.state parcel.task (moves.sleeper_of parcel)) ≡ Err refused.reason)
             × (refused.parcel ≡ parcel) × (self.new.queue.state ≡ self.old.queue.state)) }
+        ensures pick_depth { self.new.queue.pick_depth ≡ self.old.queue.pick_depth }
         ensures bounds { self.new.bounds ≡ bounds.settled self.old.bounds
             (mark_of self.old.queue.state parcel.task)
             (map.get self.new.queue.state.runnable parcel.task) }
     {
-        pick_is_first();
-        pick_of_nobody();
-        every_queue(&self.queue);
-        let task = parcel.task();
-        let mark = self.mark(task);
-        let result = self.queue.try_attach(parcel);
-        self.bounds = self.bounds.settled(mark, self.queue.entry(task));
-        result
+        self.bounds.try_attach(&mut self.queue, parcel)
     }
 
     /// Wakes a task as [`Queue::wake`](eevdf_queue::Queue::wake) does.
     pub fn wake(&mut self, task: TaskId) -> WakeAnswer
         ensures answer { result ≡ (wakes.wake self.old.queue.state task).0 }
         ensures after { self.new.queue.state ≡ (wakes.wake self.old.queue.state task).1 }
+        ensures pick_depth { self.new.queue.pick_depth ≡ self.old.queue.pick_depth }
         ensures bounds { self.new.bounds ≡ bounds.settled self.old.bounds
             (mark_of self.old.queue.state task) (map.get self.new.queue.state.runnable task) }
     {
-        pick_is_first();
-        pick_of_nobody();
-        every_queue(&self.queue);
-        let mark = self.mark(task);
-        let answer = self.queue.wake(task);
-        self.bounds = self.bounds.settled(mark, self.queue.entry(task));
-        answer
+        self.bounds.wake(&mut self.queue, task)
     }
 
     /// Gives a runnable task another nice level as [`Queue::renice`](eevdf_queue::Queue::renice) does.
     pub fn renice(&mut self, task: TaskId, nice: Nice) -> ReniceAnswer
         ensures answer { result ≡ (renices.renice self.old.queue.state task nice).0 }
         ensures after { self.new.queue.state ≡ (renices.renice self.old.queue.state task nice).1 }
+        ensures pick_depth { self.new.queue.pick_depth ≡ self.old.queue.pick_depth }
         ensures bounds { self.new.bounds ≡ bounds.settled self.old.bounds
             (mark_of self.old.queue.state task) (map.get self.new.queue.state.runnable task) }
     {
-        pick_is_first();
-        pick_of_nobody();
-        every_queue(&self.queue);
-        let mark = self.mark(task);
-        let answer = self.queue.renice(task, nice);
-        self.bounds = self.bounds.settled(mark, self.queue.entry(task));
-        answer
+        self.bounds.renice(&mut self.queue, task, nice)
     }
 
     /// Gives a task another nice level and slice as [`Queue::set`](eevdf_queue::Queue::set) does.
     pub fn set(&mut self, task: TaskId, nice: Nice, slice: Slice) -> SetAnswer
         ensures answer { result ≡ (attributes.set self.old.queue.state task nice slice).0 }
         ensures after { self.new.queue.state ≡ (attributes.set self.old.queue.state task nice slice).1 }
+        ensures pick_depth { self.new.queue.pick_depth ≡ self.old.queue.pick_depth }
         ensures bounds { self.new.bounds ≡ bounds.settled self.old.bounds
             (mark_of self.old.queue.state task) (map.get self.new.queue.state.runnable task) }
     {
-        pick_is_first();
-        pick_of_nobody();
-        every_queue(&self.queue);
-        let mark = self.mark(task);
-        let answer = self.queue.set(task, nice, slice);
-        self.bounds = self.bounds.settled(mark, self.queue.entry(task));
-        answer
+        self.bounds.set(&mut self.queue, task, nice, slice)
     }
 }

@@ -4,6 +4,7 @@ ghost use Rattle.std.specs.Prelude.{◌≡◌, ◌↔◌, IfSome, IsNone, false}
 ghost use Rattle.std.specs.Option.{option_map};
 ghost use Rattle.std.specs.FinMap as map;
 ghost use Rattle.eevdf_queue.specs.Attributes as attributes;
+ghost use Rattle.eevdf_queue.specs.Doze as dozes;
 ghost use Rattle.eevdf_queue.specs.Leaving.{IsNowhere, carried, carried_asleep, carried_running, leave, leave_asleep};
 ghost use Rattle.eevdf_fair_queue.specs.Sleeping.{slept};
 
@@ -17,6 +18,7 @@ impl FairQueue {
     pub fn sleep(&mut self, task: TaskId) -> Option<i64>
         ensures lag { result ≡ option_map (λ p. p.lag) (carried_running self.old.queue.state task) }
         ensures after { self.new.queue.state ≡ slept self.old.queue.state task }
+        ensures pick_depth { self.new.queue.pick_depth ≡ self.old.queue.pick_depth }
         ensures bounds { self.new.bounds ≡ self.old.bounds }
     {
         let parcel = self.queue.detach_running(task)?;
@@ -25,12 +27,23 @@ impl FairQueue {
         Some(lag)
     }
 
+    /// The running task dozes as by [`Queue::doze`](eevdf_queue::Queue::doze).
+    pub fn doze(&mut self, task: TaskId) -> Option<i64>
+        ensures lag { result ≡ dozes.dozed_lag self.old.queue.state task }
+        ensures after { self.new.queue.state ≡ dozes.doze self.old.queue.state task }
+        ensures pick_depth { self.new.queue.pick_depth ≡ self.old.queue.pick_depth }
+        ensures bounds { self.new.bounds ≡ self.old.bounds }
+    {
+        self.queue.doze(task)
+    }
+
     /// Takes out a runnable task as [`Queue::detach_runnable`](eevdf_queue::Queue::detach_runnable) does.
     pub fn detach_runnable(&mut self, task: TaskId) -> Option<Parcel>
         ensures parcel { result ≡ carried self.old.queue.state task }
         ensures none { IsNone result ↔ (map.contains_key self.old.queue.state.runnable task ≡ false) }
         ensures after { self.new.queue.state ≡ leave self.old.queue.state task }
         ensures nowhere { IfSome result (λ parcel. IsNowhere self.new.queue.state parcel.task) }
+        ensures pick_depth { self.new.queue.pick_depth ≡ self.old.queue.pick_depth }
         ensures bounds { self.new.bounds ≡ self.old.bounds }
     {
         self.queue.detach_runnable(task)
@@ -42,6 +55,7 @@ impl FairQueue {
         ensures none { IsNone result ↔ (map.contains_key self.old.queue.state.asleep task ≡ false) }
         ensures after { self.new.queue.state ≡ leave_asleep self.old.queue.state task }
         ensures nowhere { IfSome result (λ parcel. IsNowhere self.new.queue.state parcel.task) }
+        ensures pick_depth { self.new.queue.pick_depth ≡ self.old.queue.pick_depth }
         ensures bounds { self.new.bounds ≡ self.old.bounds }
     {
         self.queue.detach_asleep(task)
@@ -51,6 +65,7 @@ impl FairQueue {
     pub fn begin(&mut self, task: TaskId, nice: Nice, slice: Slice) -> bool
         ensures begun { result ≡ map.contains_key self.old.queue.state.asleep task }
         ensures after { self.new.queue.state ≡ attributes.begin self.old.queue.state task nice slice }
+        ensures pick_depth { self.new.queue.pick_depth ≡ self.old.queue.pick_depth }
         ensures bounds { self.new.bounds ≡ self.old.bounds }
     {
         self.queue.begin(task, nice, slice)
