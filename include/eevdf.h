@@ -14,14 +14,14 @@
  * one a nanosecond, and a heavier one fewer; virtual times and lags have a sign. A task is a number
  * from 0 to EEVDF_TASKS - 1 that the caller chooses.
  *
- * WHO OWNS WHAT. The caller owns the bytes of queues and hands. An opened one may hold memory of
- * its tasks: close it before its bytes are used for anything else. No call keeps a pointer to them,
- * and none reads a queue's bytes but those that are given it.
+ * WHO OWNS WHAT. The caller owns the bytes of queues, hands and bounds. An opened queue or hand may
+ * hold memory of its tasks: close it before its bytes are used for anything else. No call keeps a
+ * pointer to them, and none reads a queue's bytes but those that are given it.
  *
- * MOVING. Between two calls a queue or a hand may be moved: its bytes are copied to others of the
- * caller's own, aligned to 16. It is the same queue or hand there. The bytes that it left are the
- * caller's again, for anything; no call is given them as a queue or a hand any more, until they are
- * opened anew.
+ * MOVING. Between two calls a queue, a hand or bounds may be moved: the bytes are copied to others
+ * of the caller's own, aligned to 16. It is the same queue or hand there, or they are the same
+ * bounds. The bytes that were left are the caller's again, for anything; no call is given them as
+ * what they were any more, until they are opened anew.
  *
  * WHAT C MUST KEEP. Each call tests its numbers, and who is here and who runs. It can't test its
  * pointers, so these are left to C:
@@ -31,10 +31,13 @@
  *   - from eevdf_open to eevdf_close only these calls read or write the queue's bytes, one call at
  *     a time, but that it may be moved, and there are no two copies of which both are used; the
  *     same holds of a hand from eevdf_hand_open to eevdf_hand_close;
+ *   - `bounds` points to bounds that eevdf_fair_open has opened and nobody else uses during the
+ *     call; where they are opened, to so many bytes of the caller's own, aligned to 16, that are no
+ *     part of a queue or a hand;
  *   - `block` points to an eevdf_block of the caller's own that nobody else uses during the call;
  *     its `at` is NULL, or leads to EEVDF_TASK_SIZE bytes of the caller's own, aligned to 8;
  *   - `out`, `time`, `lag` and `by` point to an object of the caller's own that is no part of a
- *     queue or a hand, and that nobody else uses during the call. The proofs take it for
+ *     queue, a hand or bounds, and that nobody else uses during the call. The proofs take it for
  *     initialised, whatever its bytes: write to it once, as by `int64_t time = 0;`, before the
  *     first call;
  *   - the two functions for memory (below) do what is said there.
@@ -48,11 +51,11 @@
  * with it, unless eevdf_hand_renumber gives it another: numbers are each queue's own.
  *
  * SEVERAL CPUS. eevdf_pick and eevdf_run make who ran before a task that another CPU may take, and
- * eevdf_sleep makes it one that can be woken, while its CPU is still on its stack. So hold the
- * queue's lock until the switch has saved it; or keep a flag that it is on a CPU, which the switch
- * clears and whoever runs it elsewhere awaits. A wake is done on the queue where the task sleeps,
- * so keep with each task which queue that is. A wake that comes before the sleep is answered
- * PRESENT and leaves nothing here: the caller remembers it, and lets the task not sleep.
+ * eevdf_sleep and eevdf_doze make it one that can be woken, while its CPU is still on its stack. So
+ * hold the queue's lock until the switch has saved it; or keep a flag that it is on a CPU, which
+ * the switch clears and whoever runs it elsewhere awaits. A wake is done on the queue where the
+ * task sleeps, so keep with each task which queue that is. A wake that comes before the sleep is
+ * answered PRESENT and leaves nothing here: the caller remembers it, and lets the task not sleep.
  * docs/embedding-c.md has these rules, and when to pull; examples/c/four_cpus.c keeps them.
  *
  * INTERRUPTS. "Interrupts: yes" says that a handler may make the call, where what it interrupts
@@ -77,9 +80,9 @@
  *   - who enters the kernel saves xmm0 and xmm1 before the first call, or all by fxsave, unless the
  *     interrupted code has none of them;
  *   - SSE is on: CR0.EM is 0 and CR4.OSFXSR is 1.
- * Of either a call takes at most 1 KiB of stack, eevdf_rebase 1.5 KiB. These registers and this
- * stack are of the object alone: what the kernel's memset and the two functions for memory use
- * comes on top. Neither has thread-local storage, threads or unwind tables, nor ends the
+ * Of either a call takes at most 1 KiB of stack, and the two that rebase 1.5 KiB. These registers
+ * and this stack are of the object alone: what the kernel's memset and the two functions for memory
+ * use comes on top. Neither has thread-local storage, threads or unwind tables, nor ends the
  * program: its instructions ud2 stand where no call comes, as the proofs say, while C keeps what it
  * must. What the archives for ARM of 64 bits ask is in docs/embedding-c.md.
  */
@@ -130,14 +133,15 @@ extern "C" {
  * MAJOR where a program may have to be changed; as long as it is 0, MINOR stands for it too.
  */
 #define EEVDF_VERSION_MAJOR 0
-#define EEVDF_VERSION_MINOR 6
+#define EEVDF_VERSION_MINOR 7
 #define EEVDF_VERSION_PATCH 0
 #define EEVDF_VERSION \
 	(EEVDF_VERSION_MAJOR * 1000000 + EEVDF_VERSION_MINOR * 1000 + EEVDF_VERSION_PATCH)
 
-/* The bytes of a queue and of a hand, and of the block of memory that each task has. */
-#define EEVDF_QUEUE_SIZE 24672
+/* The bytes of a queue, of a hand and of bounds, and of the block of memory that each task has. */
+#define EEVDF_QUEUE_SIZE 24688
 #define EEVDF_HAND_SIZE 16
+#define EEVDF_BOUNDS_SIZE 32
 #define EEVDF_TASK_SIZE 152
 
 /* The limits of what a call takes; a number beyond them is answered INVALID. */
@@ -175,6 +179,14 @@ typedef struct eevdf_hand {
 	EEVDF_ALIGNED unsigned char bytes[EEVDF_HAND_SIZE];
 } eevdf_hand;
 
+/*
+ * The bounds of a queue, which lie beside it: how far its runnable tasks can be past one another's
+ * deadlines. The calls that begin with eevdf_fair_ keep them.
+ */
+typedef struct eevdf_bounds {
+	EEVDF_ALIGNED unsigned char bytes[EEVDF_BOUNDS_SIZE];
+} eevdf_bounds;
+
 /* A block of memory for one task, which `at` leads to, or none, where it is NULL. */
 typedef struct eevdf_block {
 	void *at;
@@ -202,6 +214,15 @@ typedef struct eevdf_sleeper {
 } eevdf_sleeper;
 
 /*
+ * The place of a task that dozes, a number of 128 bits: 2^64 times `high`, and `low` above that. Of
+ * two places that of the greater `high` is later, and of equal ones that of the greater `low`.
+ */
+typedef struct eevdf_place {
+	int64_t high;
+	uint64_t low;
+} eevdf_place;
+
+/*
  * What a task in a hand has: its number, its nice level, its slice in ns, its virtual runtime where
  * it left (of one that slept, the virtual time there), and its lag.
  */
@@ -215,9 +236,11 @@ typedef struct eevdf_parcel {
 
 EEVDF_ASSERT(sizeof(eevdf_queue) == EEVDF_QUEUE_SIZE, "a queue has padding");
 EEVDF_ASSERT(sizeof(eevdf_hand) == EEVDF_HAND_SIZE, "a hand has padding");
+EEVDF_ASSERT(sizeof(eevdf_bounds) == EEVDF_BOUNDS_SIZE, "bounds have padding");
 EEVDF_ASSERT(sizeof(eevdf_block) == 8, "a block has padding");
 EEVDF_ASSERT(sizeof(eevdf_entry) == 32, "an entry has padding");
 EEVDF_ASSERT(sizeof(eevdf_sleeper) == 24, "what is kept of a sleeping task has padding");
+EEVDF_ASSERT(sizeof(eevdf_place) == 16, "a place has padding");
 EEVDF_ASSERT(sizeof(eevdf_parcel) == 40, "what a task in a hand has has padding");
 EEVDF_ASSERT(sizeof(void *) == 8, "the library is for machines of 64 bits");
 
@@ -274,6 +297,12 @@ int64_t eevdf_queue_size(void);
  * Lock: none. Interrupts: yes.
  */
 int64_t eevdf_hand_size(void);
+
+/*
+ * The bytes of bounds in the library, as EEVDF_BOUNDS_SIZE is that of the header.
+ * Lock: none. Interrupts: yes.
+ */
+int64_t eevdf_bounds_size(void);
 
 /*
  * Opens a queue in the caller's bytes: empty, at the virtual time 0. Takes no memory. Opening one
@@ -388,15 +417,29 @@ int64_t eevdf_stop(eevdf_queue *queue);
  * slices of 0.1 ms, a task that runs for 4 ms, sleeps and wakes at once gets 65.6 % of the CPU
  * where 12.5 % is fair, and with turns of 100 ms 97.9 %. And tasks that sleep while time is owed to
  * them can keep one that never sleeps from the CPU, for ever. Linux keeps a task that owes time in
- * the queue until it owes nothing.
+ * the queue until it owes nothing; eevdf_doze holds it to where it left.
  * Lock: the queue's. Interrupts: yes. INVALID: no number of a task. ABSENT: the task doesn't run
  * here.
  */
 int64_t eevdf_sleep(eevdf_queue *queue, uint64_t task);
 
 /*
- * A task that sleeps here is runnable again, placed with the lag that it kept, with a fresh
- * request. Nobody is picked. Answers 0.
+ * The running task falls asleep here and dozes. It keeps of its lag what it is owed and no debt,
+ * and it keeps its place, the virtual runtime at which it leaves. eevdf_wake puts it there, or
+ * where its lag puts it, if that is later. So it owes all that it ran too much, however
+ * long its turn was, and pays by what others run while it sleeps. Writes the lag with which it
+ * leaves to `lag`; below 0 it owes. Nobody runs then. Answers 0. On an error `lag` isn't touched.
+ * To other calls it is a task that sleeps. The place stays through eevdf_set and eevdf_set_slice,
+ * and a rebase lowers it with the virtual times; it is lost where the task begins anew, ends, or
+ * goes into a hand, so what it owes is let off where it comes to another queue.
+ * Lock: the queue's. Interrupts: yes. INVALID: no number of a task. ABSENT: the task doesn't run
+ * here.
+ */
+int64_t eevdf_doze(eevdf_queue *queue, uint64_t task, int64_t *lag);
+
+/*
+ * A task that sleeps here is runnable again, placed with the lag that it kept, or where it dozes at
+ * its place, if that is later, with a fresh request. Nobody is picked. Answers 0.
  * Lock: the queue's. Interrupts: yes.
  * INVALID: no number of a task. PRESENT: it is runnable here. ABSENT: it isn't here. RANGE: it
  * can't be placed, and sleeps on.
@@ -463,11 +506,13 @@ int64_t eevdf_begin(eevdf_queue *queue, uint64_t task, int64_t nice, uint64_t sl
  * the number to `by`; below 0 it has raised them. The queue then answers every call as it would
  * have, but for that number in virtual times and for when RANGE comes: later as virtual times rise,
  * or where `by` is below 0 sooner. Lags stay as they are. Where a virtual time would leave its
- * range, as no task within 2^59 of the time 0 can make it, nothing changes, and `by` gets 0. So it
- * does where the virtual time was 0: eevdf_floor_time gives 0 then, and another number where
- * nothing could be lowered. It looks at every runnable task. Answers 0.
+ * range, as no task within 2^59 of the time 0 can make it, or the sum of all that rebases of this
+ * queue have written would pass 2^120 either way, nothing changes, and `by` gets 0. So it does
+ * where the virtual time was 0: eevdf_floor_time gives 0 then, and another number where nothing
+ * could be lowered. It looks at every runnable task. Answers 0.
  * A start that was read before stays as it was, that of a task in a hand too: less `by` it is what
- * it would be now. eevdf_put goes by the lag, and needs no start.
+ * it would be now. eevdf_put goes by the lag, and needs no start. The place of a task that dozes is
+ * less by the number, as eevdf_place_of then says.
  * Lock: the queue's. Interrupts: yes.
  */
 int64_t eevdf_rebase(eevdf_queue *queue, int64_t *by);
@@ -569,6 +614,116 @@ int64_t eevdf_pull(eevdf_queue *to, eevdf_queue *from);
 int64_t eevdf_pull_task(eevdf_queue *to, eevdf_queue *from, uint64_t task);
 
 /*
+ * Opens bounds in the caller's bytes, for a queue in which nothing is runnable, as one that was
+ * just opened. Takes no memory, and bounds needn't be closed.
+ * Bounds say at every moment by how much the virtual time can be past the deadline of a pending
+ * request, however many tasks come, leave, sleep and wake: by the most that a turn was charged
+ * since the queue was empty, but for what a task that came out of its place has moved the front.
+ * Nobody says beforehand how long ticks are.
+ * They are true as long as each change that could make them untrue is made through the calls below:
+ * these stand for eevdf_pick, eevdf_run, eevdf_tick, eevdf_admit, eevdf_admit_in, eevdf_put,
+ * eevdf_wake, eevdf_renice, eevdf_set and eevdf_rebase, do to the queue what those do, and answer
+ * the same. eevdf_pull and eevdf_pull_task may take a task out of the queue, and none is pulled
+ * into it: eevdf_take and eevdf_fair_put are made in their stead. All other calls leave true bounds
+ * true. After a change past them the bounds are opened anew when nothing is runnable.
+ * Lock: the queue's. Interrupts: yes.
+ */
+void eevdf_fair_open(eevdf_bounds *bounds);
+
+/*
+ * As eevdf_pick: the task that it answers has a turn from now on.
+ * Lock: the queue's. Interrupts: yes. ABSENT: nothing is runnable.
+ */
+int64_t eevdf_fair_pick(eevdf_bounds *bounds, eevdf_queue *queue);
+
+/*
+ * As eevdf_run. What the task is charged until the next pick is no turn, and moves the front.
+ * Lock: the queue's. Interrupts: yes.
+ * INVALID: no number of a task. ABSENT: the task isn't runnable here.
+ */
+int64_t eevdf_fair_run(eevdf_bounds *bounds, eevdf_queue *queue, uint64_t task);
+
+/*
+ * As eevdf_tick: the turn is longer by the charge.
+ * Lock: the queue's. Interrupts: yes.
+ * INVALID: ns is out of its limits. ABSENT: nobody runs. RANGE: its runtime or deadline would leave
+ * the range.
+ */
+int64_t eevdf_fair_tick(eevdf_bounds *bounds, eevdf_queue *queue, uint64_t ns);
+
+/*
+ * As eevdf_admit. Takes a block of memory.
+ * Lock: the queue's. Interrupts: as memory.
+ * INVALID: task, nice, slice_ns or start is out of its limits. PRESENT: the task is here, runnable
+ * or asleep. NO_MEMORY. RANGE: its deadline would leave the range.
+ */
+int64_t eevdf_fair_admit(eevdf_bounds *bounds, eevdf_queue *queue, uint64_t task, int64_t nice,
+			 uint64_t slice_ns, int64_t start);
+
+/*
+ * As eevdf_admit_in, in the memory that `at` of `block` leads to.
+ * Lock: the queue's. Interrupts: yes.
+ * INVALID: task, nice, slice_ns or start is out of its limits. PRESENT: the task is here, runnable
+ * or asleep. NO_MEMORY: `at` is NULL. RANGE: its deadline would leave the range.
+ */
+int64_t eevdf_fair_admit_in(eevdf_bounds *bounds, eevdf_queue *queue, eevdf_block *block,
+			    uint64_t task, int64_t nice, uint64_t slice_ns, int64_t start);
+
+/*
+ * As eevdf_put.
+ * Lock: the queue's. Interrupts: yes.
+ * ABSENT: the hand is empty. PRESENT: the task's number is here. RANGE: it can't be placed. On an
+ * error the hand keeps it.
+ */
+int64_t eevdf_fair_put(eevdf_bounds *bounds, eevdf_queue *queue, eevdf_hand *hand);
+
+/*
+ * As eevdf_wake.
+ * Lock: the queue's. Interrupts: yes.
+ * INVALID: no number of a task. PRESENT: it is runnable here. ABSENT: it isn't here. RANGE: it
+ * can't be placed, and sleeps on.
+ */
+int64_t eevdf_fair_wake(eevdf_bounds *bounds, eevdf_queue *queue, uint64_t task);
+
+/*
+ * As eevdf_renice.
+ * Lock: the queue's. Interrupts: yes.
+ * INVALID: no number of a task, or no nice level. ABSENT: it isn't runnable here. RANGE: it
+ * couldn't be placed.
+ */
+int64_t eevdf_fair_renice(eevdf_bounds *bounds, eevdf_queue *queue, uint64_t task, int64_t nice);
+
+/*
+ * As eevdf_set.
+ * Lock: the queue's. Interrupts: yes.
+ * INVALID: task, nice or slice_ns is out of its limits. ABSENT: the task isn't here. RANGE: it is
+ * runnable and couldn't be placed; it keeps its nice level and its slice.
+ */
+int64_t eevdf_fair_set(eevdf_bounds *bounds, eevdf_queue *queue, uint64_t task, int64_t nice,
+		       uint64_t slice_ns);
+
+/*
+ * As eevdf_rebase, and lowers the bounds with the virtual times. Answers 0.
+ * Lock: the queue's. Interrupts: yes.
+ */
+int64_t eevdf_fair_rebase(eevdf_bounds *bounds, eevdf_queue *queue, int64_t *by);
+
+/*
+ * By how much the virtual time can be past the deadline of any runnable task, at most, as true
+ * bounds say; 0 where nothing is runnable. It is in virtual time: of t units a CPU goes through
+ * t * W / 1024 ns, where W is what eevdf_load answers.
+ * Lock: the queue's. Interrupts: yes.
+ */
+int64_t eevdf_fair_lateness_bound(const eevdf_bounds *bounds, const eevdf_queue *queue);
+
+/*
+ * Writes the same of a task's own deadline to `by`. Answers 0. On an error `by` isn't touched.
+ * Lock: the queue's. Interrupts: yes. INVALID: no number of a task. ABSENT: it isn't runnable here.
+ */
+int64_t eevdf_fair_lateness_bound_of(const eevdf_bounds *bounds, const eevdf_queue *queue,
+				     uint64_t task, int64_t *by);
+
+/*
  * How many tasks are runnable, of which the running one is one.
  * Lock: the queue's. Interrupts: yes.
  */
@@ -611,6 +766,14 @@ int64_t eevdf_entry_of(const eevdf_queue *queue, uint64_t task, eevdf_entry *out
  * here.
  */
 int64_t eevdf_sleeper_of(const eevdf_queue *queue, uint64_t task, eevdf_sleeper *out);
+
+/*
+ * Writes the place of a task that dozes to `out`, in the virtual times of now. Answers 0. On an
+ * error `out` isn't touched. After many rebases a place may be far out of the range of virtual
+ * times.
+ * Lock: the queue's. Interrupts: yes. INVALID: no number of a task. ABSENT: it doesn't doze here.
+ */
+int64_t eevdf_place_of(const eevdf_queue *queue, uint64_t task, eevdf_place *out);
 
 /*
  * Writes the lag to `lag` that a runnable task would keep if it left now, or that a sleeping one

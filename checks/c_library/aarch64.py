@@ -106,7 +106,7 @@ def check(tools, archive, seed):
     check_objects(tools, archive)
     check_kernel(tools)
     check_installed(tools, archive)
-    for name in ("errors", "memory", "moved", "blocks", "stack"):
+    for name in ("errors", "dozes", "memory", "moved", "blocks", "fair", "stack"):
         callers.check_one(tools, name, "on aarch64")
     for (name, _), compared in sequences.all_compared(list(jobs_of(tools, archive, seed))):
         tools.checks.look(f"{name}, seed {seed}", compared.fault, f"{compared.count} calls are answered as by the model")

@@ -24,7 +24,7 @@ def check_checksum(tools):
 
 
 def check(tools):
-    for name in ("errors", "memory", "moved", "blocks"):
+    for name in ("errors", "dozes", "memory", "moved", "blocks", "fair"):
         check_one(tools, name, "")
         check_one(tools, name, "sanitized", *SANITIZED)
     check_one(tools, "stack", "", *LINKED_AT_ONCE)

@@ -10,6 +10,8 @@ from tools import C11, SANITIZED, TOP, ending, fault_of, run
 FIRST = TOP / "examples" / "c" / "first.c"
 TICKLESS = TOP / "examples" / "c" / "tickless.c"
 OWN_NUMBERS = TOP / "examples" / "c" / "own_numbers.c"
+NAPS = TOP / "examples" / "c" / "naps.c"
+PROMISED = TOP / "examples" / "c" / "promised.c"
 RUNTIME = TOP / "examples" / "c" / "runtime"
 TWO_CPUS = TOP / "examples" / "c" / "two_cpus.c"
 FOUR_CPUS = TOP / "examples" / "c" / "four_cpus.c"
@@ -168,6 +170,8 @@ def check(tools):
     check_one_thread(tools, FIRST)
     check_one_thread(tools, TICKLESS)
     check_one_thread(tools, OWN_NUMBERS)
+    check_one_thread(tools, NAPS)
+    check_one_thread(tools, PROMISED)
     check_runtime(tools, "")
     check_runtime(tools, ", sanitized", *SANITIZED)
     check_locks(tools)

@@ -19,11 +19,13 @@ static int is_moved(void)
 {
 	eevdf_entry entry = { 0, 0, 0, 0 };
 	eevdf_sleeper sleeper = { 0, 0, 0 };
+	eevdf_place place = { 0, 0 };
 	eevdf_parcel parcel = { 0, 0, 0, 0, 0 };
 
 	return eevdf_take(&queue, &hand, EEVDF_TASKS - 1) == 0 && eevdf_hand_parcel(&hand, &parcel) == 0 &&
 	       parcel.task == EEVDF_TASKS - 1 && eevdf_put(&queue, &hand) == 0 &&
 	       eevdf_sleeper_of(&queue, EEVDF_TASKS - 1, &sleeper) == EEVDF_ABSENT && sleeper.slice_ns == 0 &&
+	       eevdf_place_of(&queue, EEVDF_TASKS - 1, &place) == EEVDF_ABSENT && place.low == 0 &&
 	       eevdf_entry_of(&queue, EEVDF_TASKS - 1, &entry) == 0 && entry.slice_ns == EEVDF_SLICE_MAX;
 }
 
@@ -51,11 +53,16 @@ COMPILERS = (
 # Where the crate says how large what crosses to C is.
 SOURCES = TOP / "crates" / "eevdf_c" / "src"
 SIZE = r"size_of::<{}>\(\) == (\d+)"
-SIZES = (("opened.rt", "Opened", "EEVDF_QUEUE_SIZE"), ("hand.rt", "Hand", "EEVDF_HAND_SIZE"))
+SIZES = (
+    ("opened.rt", "Opened", "EEVDF_QUEUE_SIZE"),
+    ("hand.rt", "Hand", "EEVDF_HAND_SIZE"),
+    ("fair_bounds.rt", "FairBounds", "EEVDF_BOUNDS_SIZE"),
+)
 # The structs with fields that C reads, and the names of their types in C.
 STRUCTS = (
     ("entry_out.rt", "EntryOut", "eevdf_entry"),
     ("sleeper_out.rt", "SleeperOut", "eevdf_sleeper"),
+    ("place_out.rt", "PlaceOut", "eevdf_place"),
     ("parcel_out.rt", "ParcelOut", "eevdf_parcel"),
 )
 TYPES = {"i64": "int64_t", "u64": "uint64_t"}

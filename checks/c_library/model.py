@@ -8,8 +8,9 @@ from pathlib import Path
 TOP = Path(__file__).resolve().parents[2]
 sys.path.append(str(TOP / "checks" / "drawn"))
 
+from plain.dozes import DozingQueue  # noqa: E402
 from plain.numbers import is_in_range, lag_limit_of, weight_of  # noqa: E402
-from plain.queue import Carried, Queue, fits, fresh_entry  # noqa: E402
+from plain.queue import Carried, fits, fresh_entry  # noqa: E402
 
 ABSENT, BALANCED, NO_MEMORY, BUSY, PRESENT, INVALID, RANGE = -2, -11, -12, -16, -17, -22, -34
 TASKS = 1024
@@ -27,11 +28,17 @@ def is_slice(length):
     return 100000 <= length <= 100000000
 
 
+def halves_of(place):
+    """A number as its two halves of 64 bits, each with a sign, as play.c prints them."""
+    high, low = divmod(place, 2**64)
+    return high, low - 2**64 if low >= 2**63 else low
+
+
 class Model:
     """Two queues and two hands. A call gives its answer, or a list of it and what it writes; on an error that is what stood there."""
 
     def __init__(self):
-        self.queues = [Queue(), Queue()]
+        self.queues = [DozingQueue(), DozingQueue()]
         self.hands = [None, None]
         self.refuses = False
 
@@ -41,7 +48,7 @@ class Model:
     # Queues and hands begin and end.
 
     def open(self, queue):
-        self.queues[queue] = Queue()
+        self.queues[queue] = DozingQueue()
         return 0
 
     def close(self, queue):
@@ -119,6 +126,13 @@ class Model:
         self.queues[queue].put_asleep(task, carried.nice, carried.length, carried.lag)
         return 0
 
+    def doze(self, queue, task):
+        if not is_task(task):
+            return [INVALID, -1]
+        if self.queues[queue].running != task:
+            return [ABSENT, -1]
+        return [0, self.queues[queue].doze()]
+
     def wake(self, queue, task):
         if not is_task(task):
             return INVALID
@@ -131,6 +145,7 @@ class Model:
         if task in self.queues[queue].runnable:
             return self.queues[queue].leave(task)
         sleeper = self.queues[queue].asleep.pop(task, None)
+        self.queues[queue].places.pop(task, None)
         return sleeper and Carried(task, sleeper.nice, sleeper.length, self.queues[queue].virtual_time(), sleeper.lag)
 
     def end(self, queue, task):
@@ -275,6 +290,12 @@ class Model:
             return [ABSENT if is_task(task) else INVALID, -1, -1, 1]
         return [0, sleeper.lag, sleeper.nice, sleeper.length]
 
+    def place_of(self, queue, task):
+        place = self.queues[queue].place_now(task)
+        if place is None:
+            return [ABSENT if is_task(task) else INVALID, -1, 1]
+        return [0, *halves_of(place)]
+
     def lag_at(self, queue, task):
         here = self.queues[queue]
         return here.lag_of(task) if task in here.runnable else here.asleep[task].lag
@@ -302,6 +323,8 @@ class Model:
         for task in sorted({*here.runnable, *here.asleep}):
             entry, sleeper = here.runnable.get(task), here.asleep.get(task)
             rest = [entry.v, entry.d, entry.nice, entry.length] if entry else [sleeper.nice, sleeper.length]
+            place = here.place_now(task)
+            rest += [] if place is None else halves_of(place)
             words.append(f"{task}:{','.join(map(str, [self.lag_at(queue, task), *rest]))}")
         return words
 

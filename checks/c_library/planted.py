@@ -53,6 +53,27 @@ BODIES = {
     "a run that answers ABSENT stops who runs": ("run", "int64_t answer = RIGHT; if (answer == EEVDF_ABSENT) eevdf_stop(queue); return answer;"),
     "a run of who runs answers ABSENT": ("run", "return eevdf_running(queue) == (int64_t)task ? EEVDF_ABSENT : RIGHT;"),
     "a yield puts the deadline off twice": ("yield", "if (RIGHT != 0) return RIGHT; RIGHT; return 0;"),
+    "a doze is a sleep": ("doze", """
+        if (eevdf_running(queue) != (int64_t)task) return RIGHT;
+        eevdf_lag(queue, task, lag);
+        return eevdf_sleep(queue, task);"""),
+    "a doze tells no debt": ("doze", "int64_t answer = RIGHT; if (answer == 0 && *lag < 0) *lag = 0; return answer;"),
+    "a doze that answers ABSENT writes 0": ("doze", "int64_t answer = RIGHT; if (answer == EEVDF_ABSENT) *lag = 0; return answer;"),
+    "a wake forgets the place": ("wake", """
+        eevdf_place place = { 0, 0 };
+        eevdf_hand hand;
+        if (eevdf_place_of(queue, task, &place) != 0) return RIGHT;
+        eevdf_hand_open(&hand);
+        eevdf_take(queue, &hand, task);
+        eevdf_put_asleep(queue, &hand);
+        return RIGHT;"""),
+    "a rebase wakes who dozes": ("rebase", """
+        eevdf_place place = { 0, 0 };
+        for (uint64_t task = 0; task < EEVDF_TASKS; task++)
+            if (eevdf_place_of(queue, task, &place) == 0) eevdf_wake(queue, task);
+        return RIGHT;"""),
+    "a place is told without its upper half": ("place_of", "int64_t answer = RIGHT; if (answer == 0) out->high = 0; return answer;"),
+    "a place is written on an error": ("place_of", "out->low = 0; return RIGHT;"),
     "a wake of a runnable task answers ABSENT": ("wake", """
         int64_t answer = RIGHT;
         return answer == EEVDF_PRESENT ? EEVDF_ABSENT : answer;"""),
@@ -143,7 +164,7 @@ def found_by(job):
 
 
 def finders(tools, planted, *linked):
-    for name in ("errors", "memory", "blocks", "stack", "play"):
+    for name in ("errors", "dozes", "memory", "blocks", "stack", "play"):
         program, fault = tools.compile(name, [tools.callers / f"{name}.c", planted], *linked)
         if fault:
             raise RuntimeError(fault)

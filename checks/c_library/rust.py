@@ -11,9 +11,14 @@ from tools import TOP, fault_of, run
 
 FOLDER = TOP / "bindings" / "rust"
 # The calls that it makes others in the place of: they ask for memory, or give it back, by a name of the linker's.
-BY_NAMES = {"eevdf_admit", "eevdf_end"}
+BY_NAMES = {"eevdf_admit", "eevdf_end", "eevdf_fair_admit"}
 # The structs with fields, by the file that has them, and their names in C.
-STRUCTS = (("queue.rs", "Entry", "eevdf_entry"), ("queue.rs", "Sleeper", "eevdf_sleeper"), ("hand.rs", "Parcel", "eevdf_parcel"))
+STRUCTS = (
+    ("queue.rs", "Entry", "eevdf_entry"),
+    ("queue.rs", "Sleeper", "eevdf_sleeper"),
+    ("calls.rs", "Place", "eevdf_place"),
+    ("hand.rs", "Parcel", "eevdf_parcel"),
+)
 
 
 def source(name):
@@ -21,14 +26,14 @@ def source(name):
 
 
 def numbers_of_header():
-    """The sizes of a queue and a hand, and the code of each error, by name."""
+    """The sizes of a queue, a hand and bounds, and the code of each error, by name."""
     header = (TOP / "include" / "eevdf.h").read_text()
-    sizes = re.findall(r"^#define EEVDF_(QUEUE|HAND)_SIZE (\d+)$", header, re.MULTILINE)
+    sizes = re.findall(r"^#define EEVDF_(QUEUE|HAND|BOUNDS)_SIZE (\d+)$", header, re.MULTILINE)
     return {*sizes, *re.findall(r"^\s+EEVDF_(\w+) = (-\d+)", header, re.MULTILINE)}
 
 
 def numbers_of_crate():
-    sizes = re.findall(r"struct (Queue|Hand)Memory\(.*MaybeUninit<\[u8; (\d+)\]>", source("memory.rs"))
+    sizes = re.findall(r"struct (Queue|Hand|Bounds)Memory\(.*MaybeUninit<\[u8; (\d+)\]>", source("memory.rs"))
     codes = [(variant, code) for code, variant in re.findall(r"(-\d+) => Error::(\w+)", source("error.rs"))]
     # every other code is taken for this one
     codes += [(variant, "-22") for variant in re.findall(r"\b_ => Error::(\w+)", source("error.rs"))]

@@ -16,10 +16,11 @@ IS_MISSING, IS_LATE = 3, 124
 SECONDS, ALL_SECONDS = 600, 1800
 # What the weights of the four hogs come to, in percent.
 SHARES = (37.67, 37.67, 12.33, 12.33)
-CALLS, PLANTED = 100000, "10"
+CALLS, DOZES, PLANTED = 100000, 1000, "10"
 # Of these changes many change nothing that a later call shows; examples/sched_ext/README.md says which. Of ten of each other kind at least
 # half are noticed, and of other answers all.
-UNSEEN = {"a charge is a nanosecond shorter", "a pick is left out", "an end is left out", "another level of a task that is set"}
+UNSEEN = {"a charge is a nanosecond shorter", "a pick is left out", "a sleep in the place of a doze", "an end is left out",
+          "another level of a task that is set"}
 LEAST = 0.5
 
 
@@ -67,8 +68,10 @@ def look_fault(said):
 
 
 def calls_fault(said):
-    found = re.search(r"^(\d+) calls on", said, re.MULTILINE)
-    return None if found and int(found[1]) >= CALLS else f"there are fewer than {CALLS} calls"
+    calls, dozes = re.search(r"^(\d+) calls on", said, re.MULTILINE), re.search(r"\b(\d+) doze\b", said)
+    if not calls or int(calls[1]) < CALLS:
+        return f"there are fewer than {CALLS} calls"
+    return None if dozes and int(dozes[1]) >= DOZES else f"there are fewer than {DOZES} dozes"
 
 
 def unnoticed(said):

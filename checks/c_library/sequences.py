@@ -15,8 +15,9 @@ from tools import SANITIZED, TOP, runner
 BUILDS = {"": (100000, ("-fPIE", "-pie")), ", at a fixed address": (20000, ("-fno-pie", "-no-pie")), ", sanitized": (10000, SANITIZED)}
 ERRORS = "ABSENT", "BALANCED", "NO_MEMORY", "BUSY", "PRESENT", "INVALID", "RANGE"
 # The calls that no sequence names: callers/play.c makes them in the place of `admit`, `end` and `hand_close`, and callers/blocks.c comes to
-# their errors.
+# their errors. The calls beside bounds, which begin so, are compared by callers/fair.c with those that they stand for.
 UNNAMED = {"admit_in", "end_out", "hand_end_out"}
+BESIDE_BOUNDS = "fair_"
 # A comment of the header with the call that it belongs to.
 DECLARED = re.compile(r"/\*((?:(?!\*/).)*)\*/\nint64_t eevdf_(\w+)\(", re.DOTALL)
 
@@ -24,7 +25,7 @@ DECLARED = re.compile(r"/\*((?:(?!\*/).)*)\*/\nint64_t eevdf_(\w+)\(", re.DOTALL
 def documented():
     """Which calls can answer which errors, as the header says."""
     header = (TOP / "include" / "eevdf.h").read_text()
-    declared = [(text, name) for text, name in DECLARED.findall(header) if name not in UNNAMED]
+    declared = [(text, name) for text, name in DECLARED.findall(header) if name not in UNNAMED and not name.startswith(BESIDE_BOUNDS)]
     return {(name, error) for text, name in declared for error in ERRORS if re.search(rf"\b{error}:", text)}
 
 

@@ -78,8 +78,9 @@ static inline int64_t change_task(struct game *game, eevdf_queue *queue, uint64_
 {
 	int64_t nice = (int64_t)drawn(game, 40) + EEVDF_NICE_MIN;
 	uint64_t slice_ns = EEVDF_SLICE_MIN + drawn(game, 5000000);
+	int64_t lag = 0;
 
-	switch (drawn(game, 8)) {
+	switch (drawn(game, 9)) {
 	case 0:
 		return eevdf_admit(queue, task, nice, slice_ns, time_of(queue));
 	case 1:
@@ -94,6 +95,9 @@ static inline int64_t change_task(struct game *game, eevdf_queue *queue, uint64_
 		return eevdf_begin(queue, task, nice, slice_ns);
 	case 6:
 		return eevdf_wake(queue, task);
+	case 7:
+		eevdf_doze(queue, (uint64_t)eevdf_running(queue), &lag);
+		return lag;
 	default:
 		return eevdf_sleep(queue, (uint64_t)eevdf_running(queue));
 	}
@@ -135,15 +139,19 @@ static inline int64_t move_task(struct game *game, eevdf_queue *queue, uint64_t 
 static inline int64_t read_task(struct game *game, eevdf_queue *queue, uint64_t task)
 {
 	eevdf_entry entry = { 0, 0, 0, 0 };
+	eevdf_place place = { 0, 0 };
 	int64_t number = 0;
 
-	switch (drawn(game, 3)) {
+	switch (drawn(game, 4)) {
 	case 0:
 		eevdf_lag(queue, task, &number);
 		return number;
 	case 1:
 		eevdf_entry_of(queue, task, &entry);
 		return entry.deadline;
+	case 2:
+		eevdf_place_of(queue, task, &place);
+		return place.high ^ (int64_t)place.low;
 	default:
 		return eevdf_candidate(queue);
 	}

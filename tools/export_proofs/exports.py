@@ -59,7 +59,9 @@ def parts(text):
 
 
 def flat(text):
-    return " ".join(text.split())
+    text = " ".join(text.split())
+    # a tuple of several lines as one of one line is laid out
+    return re.sub(r",? \)", ")", text.replace("( ", "("))
 
 
 def at_pointer(text):

@@ -10,10 +10,19 @@ pub struct Block {
     pub at: *mut c_void,
 }
 
+/// The place of a task that dozes, in two halves.
+#[repr(C)]
+#[derive(Default)]
+pub struct Place {
+    pub high: i64,
+    pub low: u64,
+}
+
 extern "C" {
     pub fn eevdf_version() -> i64;
     pub fn eevdf_queue_size() -> i64;
     pub fn eevdf_hand_size() -> i64;
+    pub fn eevdf_bounds_size() -> i64;
     pub fn eevdf_open(queue: *mut c_void);
     pub fn eevdf_close(queue: *mut c_void);
     pub fn eevdf_admit_in(queue: *mut c_void, block: *mut Block, task: u64, nice: i64, slice_ns: u64, start: i64) -> i64;
@@ -25,6 +34,7 @@ extern "C" {
     pub fn eevdf_yield(queue: *mut c_void) -> i64;
     pub fn eevdf_stop(queue: *mut c_void) -> i64;
     pub fn eevdf_sleep(queue: *mut c_void, task: u64) -> i64;
+    pub fn eevdf_doze(queue: *mut c_void, task: u64, lag: *mut i64) -> i64;
     pub fn eevdf_wake(queue: *mut c_void, task: u64) -> i64;
     pub fn eevdf_end_out(queue: *mut c_void, block: *mut Block, task: u64) -> i64;
     pub fn eevdf_renice(queue: *mut c_void, task: u64, nice: i64) -> i64;
@@ -44,6 +54,26 @@ extern "C" {
     pub fn eevdf_put_asleep(queue: *mut c_void, hand: *mut c_void) -> i64;
     pub fn eevdf_pull(to: *mut c_void, from: *mut c_void) -> i64;
     pub fn eevdf_pull_task(to: *mut c_void, from: *mut c_void, task: u64) -> i64;
+    pub fn eevdf_fair_open(bounds: *mut c_void);
+    pub fn eevdf_fair_pick(bounds: *mut c_void, queue: *mut c_void) -> i64;
+    pub fn eevdf_fair_run(bounds: *mut c_void, queue: *mut c_void, task: u64) -> i64;
+    pub fn eevdf_fair_tick(bounds: *mut c_void, queue: *mut c_void, ns: u64) -> i64;
+    pub fn eevdf_fair_admit_in(
+        bounds: *mut c_void,
+        queue: *mut c_void,
+        block: *mut Block,
+        task: u64,
+        nice: i64,
+        slice_ns: u64,
+        start: i64,
+    ) -> i64;
+    pub fn eevdf_fair_put(bounds: *mut c_void, queue: *mut c_void, hand: *mut c_void) -> i64;
+    pub fn eevdf_fair_wake(bounds: *mut c_void, queue: *mut c_void, task: u64) -> i64;
+    pub fn eevdf_fair_renice(bounds: *mut c_void, queue: *mut c_void, task: u64, nice: i64) -> i64;
+    pub fn eevdf_fair_set(bounds: *mut c_void, queue: *mut c_void, task: u64, nice: i64, slice_ns: u64) -> i64;
+    pub fn eevdf_fair_rebase(bounds: *mut c_void, queue: *mut c_void, by: *mut i64) -> i64;
+    pub fn eevdf_fair_lateness_bound(bounds: *const c_void, queue: *const c_void) -> i64;
+    pub fn eevdf_fair_lateness_bound_of(bounds: *const c_void, queue: *const c_void, task: u64, by: *mut i64) -> i64;
     pub fn eevdf_len(queue: *const c_void) -> i64;
     pub fn eevdf_load(queue: *const c_void) -> i64;
     pub fn eevdf_floor_time(queue: *const c_void, time: *mut i64) -> i64;
@@ -51,6 +81,7 @@ extern "C" {
     pub fn eevdf_candidate(queue: *const c_void) -> i64;
     pub fn eevdf_entry_of(queue: *const c_void, task: u64, out: *mut Entry) -> i64;
     pub fn eevdf_sleeper_of(queue: *const c_void, task: u64, out: *mut Sleeper) -> i64;
+    pub fn eevdf_place_of(queue: *const c_void, task: u64, out: *mut Place) -> i64;
     pub fn eevdf_lag(queue: *const c_void, task: u64, lag: *mut i64) -> i64;
     pub fn eevdf_is_asleep(queue: *const c_void, task: u64) -> i64;
     pub fn eevdf_contains(queue: *const c_void, task: u64) -> i64;

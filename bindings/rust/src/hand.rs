@@ -40,7 +40,7 @@ impl<'a> Hand<'a> {
     ///
     /// # Panics
     ///
-    /// Where MAJOR or MINOR of the library that is linked, or the size of its queues or hands, isn't the crate's.
+    /// Where MAJOR or MINOR of the library that is linked, or the size of its queues, hands or bounds, isn't the crate's.
     pub fn open(memory: &'a mut HandMemory) -> Hand<'a> {
         check_library();
         let at = NonNull::from(&mut memory.0).cast();

@@ -36,6 +36,10 @@
 //! With the feature `kernel` the crate links the library for kernels, `libeevdf_kernel.a`, which uses no registers of floating point, in
 //! the place of that for programs. It stands alone, so the feature `malloc` does nothing beside it.
 //!
+//! # How late a request can be
+//!
+//! A [`FairQueue`] is a queue that says at every moment how late its requests can be, whatever ticks are made and whoever comes and goes.
+//!
 //! # Errors
 //!
 //! [`Error`] is a `core::error::Error` from Rust 1.81 on, where that is there.
@@ -71,32 +75,35 @@ use core::mem::size_of;
 
 mod calls;
 mod error;
+mod fair_queue;
 mod hand;
 mod memory;
 mod nanoseconds;
 mod queue;
 
 pub use error::{Error, Result};
+pub use fair_queue::FairQueue;
 pub use hand::{Hand, Parcel};
 pub use memory::{HandMemory, QueueMemory, TaskMemory};
 pub use nanoseconds::Nanoseconds;
 pub use queue::{Entry, Queue, Sleeper};
 
 /// The version of the library that the crate is written for.
-const VERSION: i64 = 6000;
+const VERSION: i64 = 7000;
 
 /// Of a version, the two numbers that say which programs run over it.
 const fn series(version: i64) -> i64 {
     version / 1000
 }
 
-/// Sees that the library which is linked has the two numbers of [`VERSION`], since the structs are only of those, and that its queues and
-/// hands take as many bytes as they are given.
+/// Sees that the library which is linked has the two numbers of [`VERSION`], since the structs are only of those, and that its queues,
+/// hands and bounds take as many bytes as they are given.
 fn check_library() {
     assert_eq!(series(version()), series(VERSION), "libeevdf.a is of another MAJOR or MINOR than the crate eevdf");
     // SAFETY: the calls have no condition
-    let sizes = unsafe { [calls::eevdf_queue_size(), calls::eevdf_hand_size()] };
-    assert_eq!(sizes, [size_of::<QueueMemory>() as i64, size_of::<HandMemory>() as i64], "libeevdf.a has queues or hands of other sizes");
+    let sizes = unsafe { [calls::eevdf_queue_size(), calls::eevdf_hand_size(), calls::eevdf_bounds_size()] };
+    let given = [size_of::<QueueMemory>(), size_of::<HandMemory>(), size_of::<memory::BoundsMemory>()].map(|size| size as i64);
+    assert_eq!(sizes, given, "libeevdf.a has queues, hands or bounds of other sizes");
 }
 
 /// How many numbers there are for tasks, from 0 on.

@@ -10,13 +10,17 @@ use alloc::{
     boxed::Box,
 };
 
-/// The bytes of a queue, whatever it holds: 24672.
+/// The bytes of a queue, whatever it holds: 24688.
 #[repr(C, align(16))]
-pub struct QueueMemory(pub(crate) MaybeUninit<[u8; 24672]>);
+pub struct QueueMemory(pub(crate) MaybeUninit<[u8; 24688]>);
 
 /// The bytes of a hand: 16.
 #[repr(C, align(16))]
 pub struct HandMemory(pub(crate) MaybeUninit<[u8; 16]>);
+
+/// The bytes of a queue's bounds: 32.
+#[repr(C, align(16))]
+pub(crate) struct BoundsMemory(pub(crate) MaybeUninit<[u8; 32]>);
 
 /// The bytes of a task that comes by [`Queue::admit_in`](crate::Queue::admit_in): 152 for the library, and a word of the crate's that says
 /// whether they are in a box of its own.
@@ -80,6 +84,13 @@ impl HandMemory {
     /// Bytes in which no hand has been opened.
     pub const fn new() -> HandMemory {
         HandMemory(MaybeUninit::uninit())
+    }
+}
+
+impl BoundsMemory {
+    /// Bytes in which no bounds have been opened.
+    pub(crate) const fn new() -> BoundsMemory {
+        BoundsMemory(MaybeUninit::uninit())
     }
 }
 

@@ -70,7 +70,7 @@ impl Queue<'static> {
     ///
     /// # Panics
     ///
-    /// Where MAJOR or MINOR of the library that is linked, or the size of its queues or hands, isn't the crate's.
+    /// Where MAJOR or MINOR of the library that is linked, or the size of its queues, hands or bounds, isn't the crate's.
     pub fn boxed() -> Queue<'static> {
         check_library();
         let at = NonNull::from(Box::leak(Box::new(QueueMemory::new()))).cast();
@@ -87,7 +87,7 @@ impl<'a> Queue<'a> {
     ///
     /// # Panics
     ///
-    /// Where MAJOR or MINOR of the library that is linked, or the size of its queues or hands, isn't the crate's.
+    /// Where MAJOR or MINOR of the library that is linked, or the size of its queues, hands or bounds, isn't the crate's.
     pub fn open(memory: &'a mut QueueMemory) -> Queue<'a> {
         check_library();
         let at = NonNull::from(&mut memory.0).cast();
@@ -147,6 +147,16 @@ impl<'a> Queue<'a> {
         done(unsafe { calls::eevdf_admit_in(self.at.as_ptr(), &mut block, task, nice, slice.0, start) })
     }
 
+    /// The place of the queue, for a call that changes it.
+    pub(crate) fn place_of_queue(&mut self) -> *mut c_void {
+        self.at.as_ptr()
+    }
+
+    /// The same for one that reads it.
+    pub(crate) fn shared_place(&self) -> *const c_void {
+        self.at.as_ptr()
+    }
+
     /// Lets the eligible task of earliest deadline run. `None` where nothing is runnable.
     pub fn pick(&mut self) -> Option<u64> {
         checked(unsafe { calls::eevdf_pick(self.at.as_ptr()) }).ok()
@@ -204,7 +214,18 @@ impl<'a> Queue<'a> {
         done(unsafe { calls::eevdf_sleep(self.at.as_ptr(), task) })
     }
 
-    /// A task that sleeps here is runnable again, placed with the lag that it kept.
+    /// The running task falls asleep here and dozes: it keeps what it is owed of its lag, and nothing of what it owes, and is held to its
+    /// place, the virtual runtime at which it leaves. Gives the lag with which it leaves. The place is lost where the task begins anew, ends,
+    /// or goes into a hand.
+    ///
+    /// `Absent` where it doesn't run here.
+    pub fn doze(&mut self, task: u64) -> Result<i64> {
+        let mut lag = 0;
+        done(unsafe { calls::eevdf_doze(self.at.as_ptr(), task, &mut lag) })?;
+        Ok(lag)
+    }
+
+    /// A task that sleeps here is runnable again, placed with the lag that it kept, or where it dozes at its place, if that is later.
     ///
     /// `Present` where it is runnable here, `Absent` where it isn't here, or `Range`, and then it sleeps on.
     pub fn wake(&mut self, task: u64) -> Result<()> {
@@ -264,7 +285,8 @@ impl<'a> Queue<'a> {
     }
 
     /// Lowers all virtual times by one number, so that the virtual time is 0, and gives the number. Where a virtual time would leave its
-    /// range, as no task within 2^59 of the time 0 can make it, nothing changes, and the number is 0; [`Queue::floor_time`] isn't 0 then.
+    /// range, as no task within 2^59 of the time 0 can make it, or the sum of all such numbers 2^120 either way, nothing changes, and the
+    /// number is 0; [`Queue::floor_time`] isn't 0 then.
     pub fn rebase(&mut self) -> i64 {
         let mut by = 0;
         unsafe { calls::eevdf_rebase(self.at.as_ptr(), &mut by) };
@@ -366,6 +388,15 @@ impl<'a> Queue<'a> {
         let mut sleeper = Sleeper::default();
         done(unsafe { calls::eevdf_sleeper_of(self.at.as_ptr(), task, &mut sleeper) })?;
         Ok(sleeper)
+    }
+
+    /// The place of a task that dozes, in the virtual times of now.
+    ///
+    /// `Absent` where it doesn't doze here.
+    pub fn place(&self, task: u64) -> Result<i128> {
+        let mut place = calls::Place::default();
+        done(unsafe { calls::eevdf_place_of(self.at.as_ptr(), task, &mut place) })?;
+        Ok(i128::from(place.high) << 64 | i128::from(place.low))
     }
 
     /// The lag that a runnable task would keep if it left now, or that a sleeping one keeps.

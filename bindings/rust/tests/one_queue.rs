@@ -51,6 +51,34 @@ fn a_sleeper_keeps_its_lag() {
 }
 
 #[test]
+fn a_dozing_task_is_held_to_its_place() {
+    let mut memory = QueueMemory::new();
+    let mut queue = Queue::open(&mut memory);
+    queue.admit(0, 0, SLICE, -5).unwrap();
+    queue.admit(1, 0, SLICE, -5).unwrap();
+    assert_eq!((queue.pick(), queue.tick(10 * SLICE)), (Some(0), Ok(true)));
+    assert_eq!((queue.doze(1), queue.doze(eevdf::TASKS)), (Err(Error::Absent), Err(Error::Invalid)));
+    assert_eq!(queue.doze(0), Ok(-6_000_000));
+    assert_eq!((sleeper(queue.sleeper(0)), queue.place(0)), (Ok((0, 0, SLICE)), Ok(29_999_995)));
+    assert_eq!((queue.place(1), queue.place(eevdf::TASKS)), (Err(Error::Absent), Err(Error::Invalid)));
+    assert_eq!((queue.rebase(), queue.place(0)), (-5, Ok(30_000_000)));
+    queue.wake(0).unwrap();
+    assert_eq!((queue.entry(0).unwrap().vruntime, queue.place(0)), (30_000_000, Err(Error::Absent)));
+}
+
+#[test]
+fn a_place_may_be_below_zero() {
+    let mut memory = QueueMemory::new();
+    let mut queue = Queue::open(&mut memory);
+    queue.admit(0, 0, SLICE, -5).unwrap();
+    queue.admit(1, 0, SLICE, -1).unwrap();
+    queue.run(0).unwrap();
+    assert_eq!((queue.doze(0), queue.place(0)), (Ok(2), Ok(-5)));
+    queue.begin(0, 0, SLICE).unwrap();
+    assert_eq!(queue.place(0), Err(Error::Absent));
+}
+
+#[test]
 fn each_call_says_why_it_did_nothing() {
     let mut memory = QueueMemory::new();
     let mut queue = Queue::open(&mut memory);
@@ -60,6 +88,7 @@ fn each_call_says_why_it_did_nothing() {
     assert_eq!(queue.tick(1), Err(Error::Absent));
     assert_eq!(queue.yield_now(), Err(Error::Absent));
     assert_eq!(queue.sleep(0), Err(Error::Absent));
+    assert_eq!(queue.doze(0), Err(Error::Absent));
     assert_eq!(queue.wake(0), Err(Error::Absent));
     assert_eq!(queue.end(0), Err(Error::Absent));
     assert_eq!(queue.renice(0, 1), Err(Error::Absent));
@@ -93,7 +122,7 @@ fn all_other_calls_do_what_they_say() {
     assert_eq!(queue.load(), 1024 + 335);
     queue.end(7).unwrap();
     assert_eq!(queue.len(), 1);
-    assert_eq!(eevdf::version(), 6000);
+    assert_eq!(eevdf::version(), 7000);
 }
 
 #[test]

@@ -18,8 +18,8 @@ enum { TURNS = 4000, TASKS = STATE_TASKS, EDGE = 64, MARK = 0xa5, BLOCK = EEVDF_
 /* The calls that change a queue or a hand; the first ones are drawn more often. */
 enum {
 	ADMIT, END, PICK, TICK, OFTEN,
-	YIELD = OFTEN, RUN, STOP, SLEEP, WAKE, RENICE, SET_SLICE, SET, BEGIN, REBASE, TAKE, TAKE_ANY,
-	RENUMBER, PUT, PUT_ASLEEP, END_HELD,
+	YIELD = OFTEN, RUN, STOP, SLEEP, DOZE, WAKE, RENICE, SET_SLICE, SET, BEGIN, REBASE, TAKE,
+	TAKE_ANY, RENUMBER, PUT, PUT_ASLEEP, END_HELD,
 	CALLS
 };
 
@@ -199,6 +199,8 @@ static int64_t answer_to(struct side *side, const struct call *call)
 		return eevdf_stop(queue);
 	case SLEEP:
 		return eevdf_sleep(queue, (uint64_t)eevdf_running(queue));
+	case DOZE:
+		return eevdf_doze(queue, (uint64_t)eevdf_running(queue), &number) + (number > 0);
 	case WAKE:
 		return eevdf_wake(queue, call->task);
 	case RENICE:

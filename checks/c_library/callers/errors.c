@@ -72,6 +72,7 @@ static void look_at_empty(void)
 	int64_t number = 0;
 	eevdf_entry entry = { 0, 0, 0, 0 };
 	eevdf_sleeper sleeper = { 0, 0, 0 };
+	eevdf_place place = { 0, 0 };
 	eevdf_parcel parcel = { 0, 0, 0, 0, 0 };
 
 	ANSWERS(EEVDF_ABSENT, eevdf_pick(&queue));
@@ -84,6 +85,7 @@ static void look_at_empty(void)
 	ANSWERS(EEVDF_ABSENT, eevdf_running(&queue));
 	ANSWERS(EEVDF_ABSENT, eevdf_candidate(&queue));
 	ANSWERS(EEVDF_ABSENT, eevdf_sleep(&queue, 0));
+	ANSWERS(EEVDF_ABSENT, eevdf_doze(&queue, 0, &number));
 	ANSWERS(EEVDF_ABSENT, eevdf_wake(&queue, 0));
 	ANSWERS(EEVDF_ABSENT, eevdf_end(&queue, 0));
 	ANSWERS(EEVDF_ABSENT, eevdf_renice(&queue, 0, 0));
@@ -95,6 +97,7 @@ static void look_at_empty(void)
 		fail("an empty queue at the time 0 is moved", number);
 	ANSWERS(EEVDF_ABSENT, eevdf_entry_of(&queue, 0, &entry));
 	ANSWERS(EEVDF_ABSENT, eevdf_sleeper_of(&queue, 0, &sleeper));
+	ANSWERS(EEVDF_ABSENT, eevdf_place_of(&queue, 0, &place));
 	ANSWERS(EEVDF_ABSENT, eevdf_lag(&queue, 0, &number));
 	ANSWERS(EEVDF_ABSENT, eevdf_hand_task(&hand));
 	ANSWERS(EEVDF_ABSENT, eevdf_hand_parcel(&hand, &parcel));
@@ -129,11 +132,13 @@ static void look_at_numbers(void)
 	int64_t number = 0;
 	eevdf_entry entry = { 0, 0, 0, 0 };
 	eevdf_sleeper sleeper = { 0, 0, 0 };
+	eevdf_place place = { 0, 0 };
 
 	for (size_t at = 0; at < sizeof tasks / sizeof *tasks; at++) {
 		ANSWERS(EEVDF_INVALID, eevdf_admit(&queue, tasks[at], 0, SLICE, 0));
 		ANSWERS(EEVDF_INVALID, eevdf_run(&queue, tasks[at]));
 		ANSWERS(EEVDF_INVALID, eevdf_sleep(&queue, tasks[at]));
+		ANSWERS(EEVDF_INVALID, eevdf_doze(&queue, tasks[at], &number));
 		ANSWERS(EEVDF_INVALID, eevdf_wake(&queue, tasks[at]));
 		ANSWERS(EEVDF_INVALID, eevdf_end(&queue, tasks[at]));
 		ANSWERS(EEVDF_INVALID, eevdf_renice(&queue, tasks[at], 0));
@@ -146,6 +151,7 @@ static void look_at_numbers(void)
 		ANSWERS(EEVDF_INVALID, eevdf_pull_task(&other, &queue, tasks[at]));
 		ANSWERS(EEVDF_INVALID, eevdf_entry_of(&queue, tasks[at], &entry));
 		ANSWERS(EEVDF_INVALID, eevdf_sleeper_of(&queue, tasks[at], &sleeper));
+		ANSWERS(EEVDF_INVALID, eevdf_place_of(&queue, tasks[at], &place));
 		ANSWERS(EEVDF_INVALID, eevdf_lag(&queue, tasks[at], &number));
 		ANSWERS(EEVDF_INVALID, eevdf_is_asleep(&queue, tasks[at]));
 		ANSWERS(EEVDF_INVALID, eevdf_contains(&queue, tasks[at]));
@@ -183,6 +189,7 @@ static void look_at_places(void)
 	int64_t lag = 0;
 	eevdf_entry entry = { 0, 0, 0, 0 };
 	eevdf_sleeper sleeper = { 0, 0, 0 };
+	eevdf_place place = { 0, 0 };
 	eevdf_parcel parcel = { 0, 0, 0, 0, 0 };
 
 	ANSWERS(EEVDF_PRESENT, admit_without_memory(1, EEVDF_TIME_MAX));
@@ -196,6 +203,12 @@ static void look_at_places(void)
 	ANSWERS(1, eevdf_running(&queue));
 	eevdf_stop(&queue);
 	ANSWERS(EEVDF_ABSENT, eevdf_sleep(&queue, 3));
+	ANSWERS(EEVDF_ABSENT, eevdf_doze(&queue, 1, &lag));
+	ANSWERS(EEVDF_ABSENT, eevdf_doze(&queue, 3, &lag));
+	ANSWERS(EEVDF_ABSENT, eevdf_place_of(&queue, 1, &place));
+	ANSWERS(EEVDF_ABSENT, eevdf_place_of(&queue, 3, &place));
+	if (lag != 0 || place.high != 0 || place.low != 0)
+		fail("an error writes a lag or a place", lag);
 	ANSWERS(EEVDF_ABSENT, eevdf_renice(&queue, 3, 1));
 	ANSWERS(EEVDF_ABSENT, eevdf_set(&queue, 4, 1, SLICE));
 	ANSWERS(EEVDF_PRESENT, eevdf_begin(&queue, 1, 1, SLICE));

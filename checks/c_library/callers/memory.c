@@ -116,7 +116,10 @@ static void move(eevdf_queue *from, eevdf_queue *to, uint64_t task)
 
 	eevdf_peek(from);
 	eevdf_time_to_resched(from);
-	eevdf_sleep(from, (uint64_t)running);
+	if (task % 2 == 0)
+		eevdf_sleep(from, (uint64_t)running);
+	else
+		eevdf_doze(from, (uint64_t)running, &number);
 	eevdf_set_slice(from, (uint64_t)running, SLICE / 2);
 	eevdf_set_slice(from, task, 2 * SLICE);
 	eevdf_set(from, (uint64_t)running, 1, SLICE);

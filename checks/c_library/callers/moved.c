@@ -14,8 +14,8 @@ enum { TURNS = 1000, TASKS = STATE_TASKS, MARK = 0xa5, PLACES = 3 };
 /* The calls that change a queue or a hand; the first ones are drawn more often. */
 enum {
 	ADMIT, PICK, TICK, OFTEN,
-	YIELD = OFTEN, RUN, STOP, SLEEP, WAKE, END, RENICE, SET_SLICE, SET, BEGIN, REBASE, TAKE, TAKE_ANY,
-	RENUMBER, PUT, PUT_ASLEEP,
+	YIELD = OFTEN, RUN, STOP, SLEEP, DOZE, WAKE, END, RENICE, SET_SLICE, SET, BEGIN, REBASE,
+	TAKE, TAKE_ANY, RENUMBER, PUT, PUT_ASLEEP,
 	CALLS
 };
 
@@ -88,6 +88,8 @@ static int64_t answer_to(struct side *side, const struct call *call)
 		return eevdf_stop(queue);
 	case SLEEP:
 		return eevdf_sleep(queue, (uint64_t)eevdf_running(queue));
+	case DOZE:
+		return eevdf_doze(queue, (uint64_t)eevdf_running(queue), &number) + (number > 0);
 	case WAKE:
 		return eevdf_wake(queue, call->task);
 	case END:

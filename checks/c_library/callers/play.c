@@ -158,6 +158,13 @@ static int64_t play_hand_close(const struct line *line)
 	return answer == wanted ? 0 : answer;
 }
 
+static int64_t play_doze(const struct line *line)
+{
+	written_count = 1;
+	written[0] = -1;
+	return eevdf_doze(queue_of(line), line->number[1], &written[0]);
+}
+
 static int64_t play_tick(const struct line *line)
 {
 	return eevdf_tick(queue_of(line), line->number[1]);
@@ -266,6 +273,18 @@ static int64_t play_sleeper_of(const struct line *line)
 	return answer;
 }
 
+/* The lower half is printed with a sign. */
+static int64_t play_place_of(const struct line *line)
+{
+	eevdf_place place = { -1, 1 };
+	int64_t answer = eevdf_place_of(queue_of(line), line->number[1], &place);
+
+	written_count = 2;
+	written[0] = place.high;
+	written[1] = (int64_t)place.low;
+	return answer;
+}
+
 static int64_t play_hand_parcel(const struct line *line)
 {
 	eevdf_parcel parcel = { 1, -1, 1, -1, -1 };
@@ -307,6 +326,7 @@ static const struct {
 	{ .name = "run", .change_task = eevdf_run },
 	{ .name = "stop", .change = eevdf_stop },
 	{ .name = "sleep", .change_task = eevdf_sleep },
+	{ .name = "doze", .play = play_doze },
 	{ .name = "wake", .change_task = eevdf_wake },
 	{ .name = "end", .play = play_end },
 	{ .name = "admit", .play = play_admit },
@@ -328,6 +348,7 @@ static const struct {
 	{ .name = "floor_time", .play = play_floor_time },
 	{ .name = "entry_of", .play = play_entry_of },
 	{ .name = "sleeper_of", .play = play_sleeper_of },
+	{ .name = "place_of", .play = play_place_of },
 	{ .name = "lag", .play = play_lag },
 	{ .name = "is_asleep", .read_task = eevdf_is_asleep },
 	{ .name = "contains", .read_task = eevdf_contains },
@@ -374,6 +395,7 @@ static void print_task(const eevdf_queue *queue, uint64_t task)
 {
 	eevdf_entry entry = { 0, 0, 0, 0 };
 	eevdf_sleeper sleeper = { 0, 0, 0 };
+	eevdf_place place = { 0, 0 };
 	int64_t lag = 0;
 
 	if (eevdf_contains(queue, task) != 1)
@@ -385,6 +407,8 @@ static void print_task(const eevdf_queue *queue, uint64_t task)
 		       entry.deadline, entry.nice, entry.slice_ns);
 	if (eevdf_sleeper_of(queue, task, &sleeper) == 0)
 		printf(",%" PRId64 ",%" PRIu64, sleeper.nice, sleeper.slice_ns);
+	if (eevdf_place_of(queue, task, &place) == 0)
+		printf(",%" PRId64 ",%" PRId64, place.high, (int64_t)place.low);
 }
 
 static void print_state(const struct line *line)

@@ -1,5 +1,5 @@
 /*
- * stack.c: makes every call but eevdf_rebase on a painted stack, then that too, and prints how deep
+ * stack.c: makes every call but the two that rebase on a painted stack, then these too, and prints how deep
  * the paint is gone: in many turns over 1024 tasks, and at the deepest trees that there can be. The
  * functions for memory take from a pool, and call nothing. Ends with 1 where that is more than the
  * limits, 1024 bytes, and 1536 with eevdf_rebase, which goes over the whole tree, or where a plan
@@ -33,6 +33,7 @@ static struct plan plan;
 static unsigned other_picks;
 static eevdf_queue queue, other;
 static eevdf_hand hand;
+static eevdf_bounds bounds;
 static const unsigned char *top;
 static uint64_t word = 1;
 static ucontext_t outside, inside;
@@ -105,13 +106,18 @@ static inline void turn(void)
 	int64_t running = eevdf_pick(&queue), number = 0;
 	eevdf_entry entry = { 0, 0, 0, 0 };
 	eevdf_sleeper sleeper = { 0, 0, 0 };
+	eevdf_place place = { 0, 0 };
 	eevdf_parcel parcel = { 0, 0, 0, 0, 0 };
 
 	eevdf_peek(&queue);
 	eevdf_time_to_resched(&queue);
 	eevdf_tick(&queue, 1 + drawn(3000000));
 	eevdf_yield(&queue);
-	eevdf_sleep(&queue, (uint64_t)running);
+	if (task % 2 == 0)
+		eevdf_sleep(&queue, (uint64_t)running);
+	else
+		eevdf_doze(&queue, (uint64_t)running, &number);
+	eevdf_place_of(&queue, (uint64_t)running, &place);
 	eevdf_renice(&queue, task, (int64_t)drawn(40) - 20);
 	eevdf_set_slice(&queue, task, 100000 + drawn(1000000));
 	eevdf_set_slice(&queue, (uint64_t)running, 3000000);
@@ -155,6 +161,32 @@ static inline void turn(void)
 	eevdf_admit(&queue, task, (int64_t)drawn(40) - 20, 100000 + drawn(1000000), number);
 }
 
+/* The same by the calls beside bounds, which needn't be true for it. */
+static inline void turn_beside_bounds(void)
+{
+	const uint64_t task = drawn(EEVDF_TASKS), running = (uint64_t)eevdf_fair_pick(&bounds, &queue);
+	eevdf_block block = { NULL };
+	int64_t number = 0;
+
+	eevdf_fair_tick(&bounds, &queue, 1 + drawn(3000000));
+	eevdf_fair_renice(&bounds, &queue, task, (int64_t)drawn(40) - 20);
+	eevdf_fair_set(&bounds, &queue, task, (int64_t)drawn(40) - 20, 3000000);
+	eevdf_sleep(&queue, running);
+	eevdf_fair_wake(&bounds, &queue, running);
+	eevdf_fair_run(&bounds, &queue, task);
+	eevdf_take(&queue, &hand, task);
+	eevdf_fair_put(&bounds, &queue, &hand);
+	eevdf_fair_lateness_bound(&bounds, &queue);
+	eevdf_fair_lateness_bound_of(&bounds, &queue, task, &number);
+	eevdf_floor_time(&queue, &number);
+	eevdf_end_out(&queue, &block, task);
+	eevdf_fair_admit_in(&bounds, &queue, &block, task, (int64_t)drawn(40) - 20, 3000000, number);
+	eevdf_end(&queue, task);
+	eevdf_fair_admit(&bounds, &queue, task, (int64_t)drawn(40) - 20, 3000000, number);
+	if (rebases && task == 0)
+		eevdf_fair_rebase(&bounds, &queue, &number);
+}
+
 static void make_turns(void)
 {
 	top = __builtin_frame_address(0);
@@ -165,8 +197,12 @@ static void make_turns(void)
 	for (uint64_t task = 0; task < EEVDF_TASKS; task++)
 		eevdf_admit(&queue, task, (int64_t)(task % 40) - 20, 3000000,
 			    (int64_t)drawn(10000000));
-	for (unsigned at = 0; at < TURNS; at++)
+	eevdf_fair_open(&bounds);
+	eevdf_bounds_size();
+	for (unsigned at = 0; at < TURNS; at++) {
 		turn();
+		turn_beside_bounds();
+	}
 	eevdf_take(&queue, &hand, 0);
 	eevdf_hand_close(&hand);
 	eevdf_close(&queue);

@@ -10,9 +10,10 @@ enum { STATE_TASKS = 16 };
 struct state {
 	int64_t len, load, time, running, peek, until, candidate, in_hand;
 	int64_t is_runnable[STATE_TASKS], is_asleep[STATE_TASKS], is_here[STATE_TASKS];
-	int64_t lag[STATE_TASKS];
+	int64_t lag[STATE_TASKS], is_dozing[STATE_TASKS];
 	eevdf_entry entry[STATE_TASKS];
 	eevdf_sleeper sleeper[STATE_TASKS];
+	eevdf_place place[STATE_TASKS];
 	eevdf_parcel parcel;
 };
 
@@ -33,6 +34,7 @@ static inline struct state state_of(const eevdf_queue *queue, const eevdf_hand *
 	for (uint64_t task = 0; task < STATE_TASKS; task++) {
 		state.is_runnable[task] = eevdf_entry_of(queue, task, &state.entry[task]);
 		eevdf_sleeper_of(queue, task, &state.sleeper[task]);
+		state.is_dozing[task] = eevdf_place_of(queue, task, &state.place[task]);
 		state.is_asleep[task] = eevdf_is_asleep(queue, task);
 		state.is_here[task] = eevdf_contains(queue, task);
 		eevdf_lag(queue, task, &state.lag[task]);

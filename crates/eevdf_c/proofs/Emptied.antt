@@ -79,10 +79,13 @@ pub emptied : (q : State) → IsKept q → AreGone q number_limit → IsEmptied 
 emptied q kept gone =
     let runnable : (t : ℕ) → get q.runnable t ≡ None = λ t. none_of (get q.runnable t) (λ e here. clash here (gone t (kept.in_range t e here).0).not_runnable) in
     let asleep : (t : ℕ) → get q.asleep t ≡ None = λ t. none_of (get q.asleep t) (λ s here. clash here (gone t (kept.limited t s here).0).not_asleep) in
+    let places : (t : ℕ) → get q.places t ≡ None =
+    λ t. none_of (get q.places t) (λ place here. differ (sym (kept.placed t (ap is_some here)) ∙ ap is_some (asleep t))) in
     record {
       runnable = same_map nat_cmp_total nat_cmp-IsAntisymmetric _ _ (λ t. runnable t ∙ sym (get-empty nat_cmp t));
       asleep = same_map nat_cmp_total nat_cmp-IsAntisymmetric _ _ (λ t. asleep t ∙ sym (get-empty nat_cmp t));
       running = nobody q q.running kept.sound.runs runnable;
+      places = same_map nat_cmp_total nat_cmp-IsAntisymmetric _ _ (λ t. places t ∙ sym (get-empty nat_cmp t));
     }
 
 pub ended_next : (q : State) (k : ℕ) → ended_below q (k + 1) ≡ (end_by (ended_below q k) (Some k)).1

@@ -3,3 +3,5 @@ mod Emptied
 mod Few
 mod TaskCodes
 mod Pulling
+mod Fair
+mod OtherCalls

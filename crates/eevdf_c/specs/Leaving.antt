@@ -5,7 +5,8 @@ use Rattle.std.specs.FinMap as map
 use Rattle.eevdf_queue.specs.{declared.entry.Entry.Entry, State.State, declared.sleeper.Sleeper.Sleeper, State.Contents}
 use Rattle.eevdf_queue.specs.{Numbers.checked_number, Numbers.number_limit, Moves.put_asleep, Lag.kept_lag}
 use Rattle.eevdf_queue.specs.Leaving.{leaving, leaving_asleep, without_entry, without_sleeper, carried_running, leave_running, IsNowhere}
-use Rattle.eevdf_c.specs.Codes.{done, absent, invalid}
+use Rattle.eevdf_queue.specs.Doze as dozes
+use Rattle.eevdf_c.specs.{Codes.done, Codes.absent, Codes.invalid, Found.found_code, Found.found_or}
 
 abbrev pub sleep_with : State → ℕ → Option Contents → ℤ × State
 sleep_with q task None = (absent, q)
@@ -18,6 +19,22 @@ sleep_by q (Some task) = sleep_with q task (carried_running q task)
 -- the running task falls asleep: what is answered, and the state afterwards
 abbrev pub sleep : State → ℕ → ℤ × State
 sleep q number = sleep_by q (checked_number number)
+
+abbrev pub doze_by : State → Option ℕ → ℤ × State
+doze_by q None = (invalid, q)
+doze_by q (Some task) = (found_code (dozes.dozed_lag q task), dozes.doze q task)
+
+-- the running task falls asleep and is held to its place: what is answered, and the state afterwards
+abbrev pub doze : State → ℕ → ℤ × State
+doze q number = doze_by q (checked_number number)
+
+abbrev pub told_doze_by : State → ℤ → Option ℕ → ℤ
+told_doze_by q other None = other
+told_doze_by q other (Some task) = found_or other (dozes.dozed_lag q task)
+
+-- what stands afterwards where the lag is to be written with which it leaves
+abbrev pub told_doze : State → ℤ → ℕ → ℤ
+told_doze q other number = told_doze_by q other (checked_number number)
 
 abbrev pub carried_by : State → ℕ → Option Entry → Option Sleeper → Option Contents
 carried_by q task (Some e) s = Some (leaving task (kept_lag q e) e)
@@ -65,3 +82,4 @@ pub record IsEmptied (q : State) : Type 0 where
   pub runnable : q.runnable ≡ map.empty
   pub asleep : q.asleep ≡ map.empty
   pub running : q.running ≡ None
+  pub places : q.places ≡ map.empty

@@ -15,8 +15,11 @@ pub mod Readers
 pub mod Found
 pub mod EntryOut
 pub mod SleeperOut
+pub mod PlaceOut
 pub mod ParcelOut
 pub mod Errors
 pub mod Blocks
+pub mod Fair
+pub mod OtherCalls
 pub mod Memory
 pub mod Sizes

@@ -8,11 +8,15 @@ use Rattle.eevdf_c.specs.contracts.entry_out.EntryOut as entry_type
 use Rattle.eevdf_c.specs.declared.entry_out.EntryOut.{EntryOut}
 use Rattle.eevdf_c.specs.contracts.sleeper_out.SleeperOut as sleeper_type
 use Rattle.eevdf_c.specs.declared.sleeper_out.SleeperOut.{SleeperOut}
+use Rattle.eevdf_c.specs.contracts.place_out.PlaceOut as place_type
+use Rattle.eevdf_c.specs.declared.place_out.PlaceOut.{PlaceOut}
 use Rattle.eevdf_c.specs.contracts.parcel_out.ParcelOut as parcel_type
 use Rattle.eevdf_c.specs.declared.parcel_out.ParcelOut.{ParcelOut}
 use Rattle.eevdf_c.specs.contracts.opened.Opened as opened_type
 use Rattle.eevdf_c.specs.contracts.hand.Hand as hand_type
 use Rattle.eevdf_c.specs.contracts.given_block.GivenBlock as block_type
+use Rattle.eevdf_c.specs.contracts.fair_bounds.FairBounds as bounds_type
+use Rattle.eevdf_fair_queue.specs.declared.bounds.Bounds.{Bounds}
 
 -- an opened queue, which nobody else uses
 abbrev pub queue_at : Ptr → State → Fml
@@ -30,6 +34,14 @@ hand_at at h = lies_at hand_type.the_row full_share at h
 abbrev pub room_for_hand : Ptr → Fml
 room_for_hand at = room_at hand_type.the_row at
 
+-- the bounds of a queue, which nobody else uses
+abbrev pub bounds_at : Ptr → Bounds → Fml
+bounds_at at b = lies_at bounds_type.the_row full_share at b
+
+-- the room of bounds
+abbrev pub room_for_bounds : Ptr → Fml
+room_for_bounds at = room_at bounds_type.the_row at
+
 -- a pointer, which nobody else uses: to memory for a task, with the right to free it, or, where there is no block, null
 abbrev pub block_at : Ptr → Bool → Fml
 block_at at has = lies_at block_type.the_row full_share at has
@@ -45,6 +57,10 @@ entry_at at e = lies_at entry_type.the_row full_share at e
 -- what is kept of a sleeping task, which nobody else uses
 abbrev pub sleeper_at : Ptr → SleeperOut → Fml
 sleeper_at at s = lies_at sleeper_type.the_row full_share at s
+
+-- the place of a task that dozes, which nobody else uses
+abbrev pub place_at : Ptr → PlaceOut → Fml
+place_at at p = lies_at place_type.the_row full_share at p
 
 -- what a task in a hand has, which nobody else uses
 abbrev pub parcel_at : Ptr → ParcelOut → Fml

@@ -2,7 +2,10 @@
 use Rattle.std.specs.Prelude.{ℤ, pos}
 
 abbrev pub queue_size : ℤ
-queue_size = pos 24672
+queue_size = pos 24688
 
 abbrev pub hand_size : ℤ
 hand_size = pos 16
+
+abbrev pub bounds_size : ℤ
+bounds_size = pos 32

@@ -1,4 +1,4 @@
-//! That a queue and a hand may lie elsewhere from one call to the next.
+//! That a queue, a hand and bounds may lie elsewhere from one call to the next.
 //!
 //! Nobody calls these: C copies the bytes itself. Their contracts say what C may rely on then. The bytes alone tell the queue, wherever
 //! they lie, so nothing that the library keeps leads back to where they lay; and where they lay is room of the caller's again.
@@ -6,8 +6,10 @@
 ghost use Rattle.std.specs.Prelude.{Option};
 ghost use Rattle.std.specs.Borrow.{sem};
 ghost use Rattle.eevdf_queue.specs.State.{State, Contents};
-ghost use Rattle.eevdf_c.specs.Memory.{hand_at, queue_at, room_for_hand, room_for_queue};
+ghost use Rattle.eevdf_fair_queue.specs.declared.bounds.Bounds.{Bounds};
+ghost use Rattle.eevdf_c.specs.Memory.{bounds_at, hand_at, queue_at, room_for_bounds, room_for_hand, room_for_queue};
 
+use crate::fair_bounds::FairBounds;
 use crate::hand::Hand;
 use crate::opened::Opened;
 
@@ -31,4 +33,15 @@ pub unsafe fn move_hand(from: *mut u8, to: *mut u8)
     ensures* left { sem 𝓛 (room_for_hand from) }
 {
     (to as *mut Hand).write((from as *mut Hand).read());
+}
+
+/// Copies the bytes of bounds to another place, where they are the same bounds.
+pub unsafe fn move_bounds(from: *mut u8, to: *mut u8)
+    ghost b: { Bounds }
+    requires* here { sem 𝓛 (bounds_at from b) }
+    requires* there { sem 𝓛 (room_for_bounds to) }
+    ensures* moved { sem 𝓛 (bounds_at to b) }
+    ensures* left { sem 𝓛 (room_for_bounds from) }
+{
+    (to as *mut FairBounds).write((from as *mut FairBounds).read());
 }

@@ -37,4 +37,4 @@ impl Opened {
 }
 
 // the bytes that the header for C gives a queue
-const _: () = prove!(size_of::<Opened>() == 24672 && align_of::<Opened>() == 16);
+const _: () = prove!(size_of::<Opened>() == 24688 && align_of::<Opened>() == 16);

@@ -33,6 +33,26 @@ fn sleep_task(queue: &mut Queue, task: TaskId) -> i64
     }
 }
 
+/// The running task falls asleep and is held to its place. `lag` gets the lag with which it leaves, and else stays as it was.
+pub fn doze(opened: &mut Opened, number: u64, lag: &mut i64) -> i64
+    ensures answer { result ≡ (leaving.doze opened.old number).0 }
+    ensures after { opened.new ≡ (leaving.doze opened.old number).1 }
+    ensures told { lag.new ≡ leaving.told_doze opened.old lag.old number }
+    ensures kept { KeepsOnError result opened.old opened.new }
+    ensures held { KeepsOnError result lag.old lag.new }
+{
+    let Some(task) = TaskId::new(number) else {
+        return INVALID;
+    };
+    match opened.queue.doze(task) {
+        Some(left) => {
+            *lag = left;
+            DONE
+        }
+        None => ABSENT,
+    }
+}
+
 /// A task ends, runnable or asleep.
 pub fn end(opened: &mut Opened, number: u64) -> i64
     ensures answer { result ≡ (leaving.end opened.old number).0 }

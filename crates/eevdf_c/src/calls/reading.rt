@@ -1,22 +1,25 @@
 //! What is read of a queue.
 
-ghost use Rattle.std.specs.Prelude.{◌≡◌, ◌≤◌, ◌↔◌, ℕ, pos, unsigned_abs, true, false};
+ghost use Rattle.std.specs.Prelude.{◌≡◌, ◌≤◌, ◌↔◌, ℕ, pos, unsigned_abs, true, false, Some};
 ghost use Rattle.std.specs.FinMap as map;
 ghost use Rattle.eevdf_weight.specs.Limits.{is_in_range};
 ghost use Rattle.eevdf_queue.specs.Sums.{virtual_time};
 ghost use Rattle.eevdf_queue.specs.Candidate.{IsCandidate, NoneWaits, is_running};
 ghost use Rattle.eevdf_queue.specs.Lag as lags;
+ghost use Rattle.eevdf_queue.specs.Doze as dozes;
 ghost use Rattle.eevdf_c.specs.Codes.{absent, done};
 ghost use Rattle.eevdf_c.specs.Errors.{KeepsOnError};
 ghost use Rattle.eevdf_c.specs.Readers as readers;
 ghost use Rattle.eevdf_c.specs.EntryOut as entries;
 ghost use Rattle.eevdf_c.specs.SleeperOut as sleepers;
+ghost use Rattle.eevdf_c.specs.PlaceOut as places;
 ghost use Rattle.eevdf_c.specs.Turns as turns;
 
 use crate::calls::turns::task_or_absent;
 use crate::codes::{ABSENT, DONE, INVALID};
 use crate::entry_out::EntryOut;
 use crate::opened::Opened;
+use crate::place_out::PlaceOut;
 use crate::sleeper_out::SleeperOut;
 use eevdf_queue::{TaskId, laws};
 use eevdf_weight::{Nice, Slice, lag_limit, weight};
@@ -98,6 +101,25 @@ pub fn sleeper_of(opened: &Opened, number: u64, out: &mut SleeperOut) -> i64
     match opened.queue.sleeper(task) {
         Some(sleeper) => {
             *out = SleeperOut::of(&sleeper);
+            DONE
+        }
+        None => ABSENT,
+    }
+}
+
+/// The place of a task, where it dozes here, which `out` gets. Else `out` stays as it was.
+pub fn place_of(opened: &Opened, number: u64, out: &mut PlaceOut) -> i64
+    ensures answer { result ≡ places.place opened.now number }
+    ensures told { out.new ≡ places.told_place opened.now out.old number }
+    ensures kept { KeepsOnError result out.old out.new }
+    ensures whole { result ≡ done → dozes.place_of opened.now number ≡ Some (places.value out.new) }
+{
+    let Some(task) = TaskId::new(number) else {
+        return INVALID;
+    };
+    match opened.queue.place_of(task) {
+        Some(place) => {
+            *out = PlaceOut::of(place);
             DONE
         }
         None => ABSENT,

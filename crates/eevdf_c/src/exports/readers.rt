@@ -1,23 +1,26 @@
 //! What is read of a queue.
 
-ghost use Rattle.std.specs.Prelude.{◌≡◌, ◌≤◌, ◌↔◌, ℕ, ℤ, pos, unsigned_abs, true, false};
+ghost use Rattle.std.specs.Prelude.{◌≡◌, ◌≤◌, ◌↔◌, ℕ, ℤ, pos, unsigned_abs, true, false, Some};
 ghost use Rattle.std.specs.Borrow.{sem};
 ghost use Rattle.std.specs.FinMap as map;
 ghost use Rattle.eevdf_weight.specs.Limits.{is_in_range};
 ghost use Rattle.eevdf_queue.specs.{State.State, Sums.virtual_time};
 ghost use Rattle.eevdf_queue.specs.Candidate.{IsCandidate, NoneWaits, is_running};
 ghost use Rattle.eevdf_queue.specs.Lag as lags;
-ghost use Rattle.eevdf_c.specs.Memory.{entry_at, number_at, queue_at, sleeper_at};
+ghost use Rattle.eevdf_queue.specs.Doze as dozes;
+ghost use Rattle.eevdf_c.specs.Memory.{entry_at, number_at, place_at, queue_at, sleeper_at};
 ghost use Rattle.eevdf_c.specs.Errors.{KeepsOnError};
 ghost use Rattle.eevdf_c.specs.Codes as answers;
 ghost use Rattle.eevdf_c.specs.EntryOut as entries;
 ghost use Rattle.eevdf_c.specs.SleeperOut as sleepers;
+ghost use Rattle.eevdf_c.specs.PlaceOut as places;
 ghost use Rattle.eevdf_c.specs.Readers as readers;
 ghost use Rattle.eevdf_c.specs.Turns as turns;
 
 use crate::calls;
 use crate::entry_out::EntryOut;
 use crate::opened::Opened;
+use crate::place_out::PlaceOut;
 use crate::sleeper_out::SleeperOut;
 
 /// The number of runnable tasks.
@@ -128,6 +131,23 @@ pub unsafe extern "C" fn eevdf_sleeper_of(queue: *const u8, task: u64, out: *mut
         (sleepers.told_sleeper g.0 g.1 task).slice_ns ≡ true }
 {
     calls::reading::sleeper_of(&*(queue as *const Opened), task, &mut *out)
+}
+
+/// The place of a task that dozes here, in the virtual times of now, which `out` gets. Answers 0. `INVALID`: no task has the number;
+/// `ABSENT`: it doesn't doze here.
+#[unsafe(no_mangle)]
+pub unsafe extern "C" fn eevdf_place_of(queue: *const u8, task: u64, out: *mut PlaceOut) -> i64
+    ghost g: { State × places.PlaceOut }
+    requires* queue { sem 𝓛 (queue_at queue g.0) }
+    requires* out { sem 𝓛 (place_at out g.1) }
+    ensures* after { sem 𝓛 (queue_at queue g.0) }
+    ensures* told { sem 𝓛 (place_at out (places.told_place g.0 g.1 task)) }
+    ensures answer { result ≡ places.place g.0 task }
+    ensures kept { KeepsOnError result g.1 (places.told_place g.0 g.1 task) }
+    ensures whole { result ≡ answers.done
+        → dozes.place_of g.0 task ≡ Some (places.value (places.told_place g.0 g.1 task)) }
+{
+    calls::reading::place_of(&*(queue as *const Opened), task, &mut *out)
 }
 
 /// 1 where a task sleeps here, and else 0. `INVALID`: no task has the number.

@@ -1,8 +1,9 @@
-//! How many bytes the caller gives to a queue and to a hand.
+//! How many bytes the caller gives to a queue, to a hand and to bounds.
 
 ghost use Rattle.std.specs.Prelude.{◌≡◌};
-ghost use Rattle.eevdf_c.specs.Sizes.{hand_size, queue_size};
+ghost use Rattle.eevdf_c.specs.Sizes.{bounds_size, hand_size, queue_size};
 
+use crate::fair_bounds::FairBounds;
 use crate::hand::Hand;
 use crate::opened::Opened;
 use std::mem::size_of;
@@ -21,4 +22,12 @@ pub extern "C" fn eevdf_hand_size() -> i64
     ensures { result ≡ hand_size }
 {
     size_of::<Hand>() as i64
+}
+
+/// The bytes of bounds, as `EEVDF_BOUNDS_SIZE` of the header has them.
+#[unsafe(no_mangle)]
+pub extern "C" fn eevdf_bounds_size() -> i64
+    ensures { result ≡ bounds_size }
+{
+    size_of::<FairBounds>() as i64
 }

@@ -51,8 +51,25 @@ pub unsafe extern "C" fn eevdf_sleep(queue: *mut u8, task: u64) -> i64
     calls::leaving::sleep(&mut *(queue as *mut Opened), task)
 }
 
-/// Makes a task runnable that sleeps here, with the lag that it kept. Answers 0. `INVALID`: no task has the number; `PRESENT`: it
-/// is runnable here; `ABSENT`: it isn't here; `RANGE`: its runtime or deadline would be out of range, and it sleeps on.
+/// The running task falls asleep: it keeps of its lag what it is owed, and is held to the virtual runtime at which it leaves. `lag` gets
+/// the lag with which it leaves. Answers 0. `INVALID`: no task has the number; `ABSENT`: it doesn't run here.
+#[unsafe(no_mangle)]
+pub unsafe extern "C" fn eevdf_doze(queue: *mut u8, task: u64, lag: *mut i64) -> i64
+    ghost g: { State × ℤ }
+    requires* queue { sem 𝓛 (queue_at queue g.0) }
+    requires* lag { sem 𝓛 (number_at lag g.1) }
+    ensures* after { sem 𝓛 (queue_at queue (leaving.doze g.0 task).1) }
+    ensures* told { sem 𝓛 (number_at lag (leaving.told_doze g.0 g.1 task)) }
+    ensures answer { result ≡ (leaving.doze g.0 task).0 }
+    ensures kept { KeepsOnError result g.0 (leaving.doze g.0 task).1 }
+    ensures held { KeepsOnError result g.1 (leaving.told_doze g.0 g.1 task) }
+{
+    calls::leaving::doze(&mut *(queue as *mut Opened), task, &mut *lag)
+}
+
+/// Makes a task runnable that sleeps here, with the lag that it kept, and where it dozes no earlier than its place. Answers 0. `INVALID`:
+/// no task has the number; `PRESENT`: it is runnable here; `ABSENT`: it isn't here; `RANGE`: its runtime or deadline would be out of
+/// range, and it sleeps on.
 #[unsafe(no_mangle)]
 pub unsafe extern "C" fn eevdf_wake(queue: *mut u8, task: u64) -> i64
     ghost q: { State }

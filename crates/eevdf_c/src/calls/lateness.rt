@@ -1,0 +1,41 @@
+//! How late a request can be.
+
+ghost use Rattle.std.specs.Prelude.{◌≡◌};
+ghost use Rattle.eevdf_fair_queue.specs.Fair.{IsFair};
+ghost use Rattle.eevdf_fair_queue.specs.Lateness.{IsLateBy, NoneIsLaterThan};
+ghost use Rattle.eevdf_fair_queue.specs.Lateness as latenesses;
+ghost use Rattle.eevdf_c.specs.Codes.{done};
+ghost use Rattle.eevdf_c.specs.Errors.{KeepsOnError};
+ghost use Rattle.eevdf_c.specs.Fair as fairs;
+
+use crate::codes::{ABSENT, DONE, INVALID};
+use crate::fair_bounds::FairBounds;
+use crate::opened::Opened;
+use eevdf_queue::TaskId;
+
+/// By how much the virtual time can be past the deadline of any runnable task, at most.
+pub fn lateness_bound(bounds: &FairBounds, opened: &Opened) -> i64
+    ensures answer { result ≡ latenesses.lateness_bound opened.now bounds.now }
+    ensures late { IsFair opened.now bounds.now → NoneIsLaterThan opened.now result }
+{
+    bounds.kept.lateness_bound(&opened.queue)
+}
+
+/// By how much the virtual time can be past the deadline of a runnable task, at most, which `by` gets. Else `by` stays as it was.
+pub fn lateness_bound_of(bounds: &FairBounds, opened: &Opened, number: u64, by: &mut i64) -> i64
+    ensures answer { result ≡ fairs.lateness opened.now number }
+    ensures told { by.new ≡ fairs.told_lateness bounds.now opened.now by.old number }
+    ensures late { result ≡ done → IsFair opened.now bounds.now → IsLateBy opened.now number by.new }
+    ensures kept { KeepsOnError result by.old by.new }
+{
+    let Some(task) = TaskId::new(number) else {
+        return INVALID;
+    };
+    match bounds.kept.lateness_bound_of(&opened.queue, task) {
+        Some(found) => {
+            *by = found;
+            DONE
+        }
+        None => ABSENT,
+    }
+}
