@@ -237,6 +237,15 @@ s64 call_sleep(struct cpu_queue *queue, u64 task)
 	return note_task(queue, CALL_SLEEP, task, eevdf_sleep(&queue->queue, task));
 }
 
+s64 call_doze(struct cpu_queue *queue, u64 task)
+{
+	int64_t lag = -1;	/* as replay.py has it where none is written */
+	s64 answer = eevdf_doze(&queue->queue, task, &lag);
+
+	return note_change(queue, (struct record){
+		.call = CALL_DOZE, .task = task, .first = lag, .answer = answer });
+}
+
 s64 call_wake(struct cpu_queue *queue, u64 task)
 {
 	return note_task(queue, CALL_WAKE, task, eevdf_wake(&queue->queue, task));

@@ -15,7 +15,7 @@
 /* The calls by the numbers that they have in the trace; replay.py has the same list. */
 enum call {
 	CALL_OPEN, CALL_ADMIT, CALL_END, CALL_PICK, CALL_PEEK, CALL_TICK, CALL_TIME_TO_RESCHED,
-	CALL_YIELD, CALL_STOP, CALL_RUN, CALL_SLEEP, CALL_WAKE, CALL_SET, CALL_TAKE,
+	CALL_YIELD, CALL_STOP, CALL_RUN, CALL_SLEEP, CALL_DOZE, CALL_WAKE, CALL_SET, CALL_TAKE,
 	CALL_PUT_ASLEEP, CALL_PULL, CALL_PULL_TASK, CALL_REBASE, CALL_LEN, CALL_RUNNING,
 	CALL_CANDIDATE, CALL_IS_ASLEEP, CALL_ENTRY_OF
 };
@@ -55,6 +55,7 @@ s64 call_yield(struct cpu_queue *queue);
 s64 call_stop(struct cpu_queue *queue);
 s64 call_run(struct cpu_queue *queue, u64 task);
 s64 call_sleep(struct cpu_queue *queue, u64 task);
+s64 call_doze(struct cpu_queue *queue, u64 task);
 s64 call_wake(struct cpu_queue *queue, u64 task);
 s64 call_set(struct cpu_queue *queue, u64 task, s64 nice, u64 slice_ns);
 s64 call_take(struct cpu_queue *queue, eevdf_hand *hand, u64 task);

@@ -9,7 +9,7 @@
 #include <stdint.h>
 #include <sys/types.h>
 
-enum { MILLISECOND = 1000000, SECOND = 1000 * MILLISECOND };
+enum { MICROSECOND = 1000, MILLISECOND = 1000 * MICROSECOND, SECOND = 1000 * MILLISECOND };
 
 /* Prints a line to the console. Every line that says that something is wrong begins with FAULT. */
 void say(const char *text, ...) __attribute__((format(printf, 1, 2)));

@@ -98,10 +98,10 @@ void measure_shares(int seconds)
 }
 
 /*
- * So many that run for a while, sleep for a microsecond and go on, beside so many that never sleep.
- * What all of the former had.
+ * So many that run for a while, sleep for another and go on, beside so many that never sleep. What
+ * all of the former had.
  */
-static void measure_napping(int nappers, int64_t run_ns, int others, int seconds)
+static void measure_napping(int nappers, int64_t run_ns, int64_t nap_ns, int others, int seconds)
 {
 	enum { MOST = 16 };
 	pid_t children[MOST];
@@ -113,7 +113,7 @@ static void measure_napping(int nappers, int64_t run_ns, int others, int seconds
 		if (children[at] == 0) {
 			while (at < nappers) {
 				compute_until(now_ns() + run_ns);
-				sleep_ns(1000);
+				sleep_ns(nap_ns);
 			}
 			compute();
 		}
@@ -130,14 +130,15 @@ static void measure_napping(int nappers, int64_t run_ns, int others, int seconds
 	}
 	for (int at = 0; at < count; at++)
 		end_child(children[at]);
-	say("%s: naps: %d after %lld us each, beside %d: %.2f %%, where %.2f is theirs",
-	    name_of_class(), nappers, (long long)run_ns / 1000, others,
+	say("%s: naps: %d of %lld us after %lld us each, beside %d: %.2f %%, where %.2f is theirs",
+	    name_of_class(), nappers, (long long)nap_ns / 1000, (long long)run_ns / 1000, others,
 	    100.0 * (double)napped / (double)all, 100.0 * nappers / count);
 }
 
 void measure_naps(int seconds)
 {
-	measure_napping(1, 4 * MILLISECOND, 7, seconds);
-	measure_napping(2, 2 * MILLISECOND, 1, seconds);
-	measure_napping(2, MILLISECOND / 2, 1, seconds);
+	measure_napping(1, 4 * MILLISECOND, MICROSECOND, 7, seconds);
+	measure_napping(2, 2 * MILLISECOND, MICROSECOND, 1, seconds);
+	measure_napping(2, MILLISECOND / 2, MICROSECOND, 1, seconds);
+	measure_napping(2, MILLISECOND / 2, MILLISECOND / 2, 1, seconds);
 }

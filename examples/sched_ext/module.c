@@ -48,9 +48,9 @@ __bpf_kfunc s64 queues_enqueue(struct task_struct *p)
 	return told(enqueue(p));
 }
 
-__bpf_kfunc s64 queues_take_back(struct task_struct *p)
+__bpf_kfunc s64 queues_take_back(struct task_struct *p, bool falls_asleep)
 {
-	return told(take_back(p));
+	return told(take_back(p, falls_asleep));
 }
 
 /* What it gives has to be given back by bpf_task_release. */

@@ -11,6 +11,10 @@ MODULE_PARM_DESC(slice_us, "the slice of each task, in microseconds: 100 to 1000
 module_param(rebase_ms, uint, 0444);
 MODULE_PARM_DESC(rebase_ms, "how often each queue is rebased, in milliseconds; default: each day");
 
+static bool dozes = true;
+module_param(dozes, bool, 0444);
+MODULE_PARM_DESC(dozes, "0: a task falls asleep by eevdf_sleep, and not by eevdf_doze");
+
 static struct cpu_queue *queues;
 
 struct cpu_queue *queue_of(int cpu)
@@ -146,8 +150,11 @@ s64 make_runnable(struct cpu_queue *queue, struct task *task)
 	return call_is_asleep(queue, number) ? call_wake(queue, number) : 0;
 }
 
-/* Who runs falls asleep by one call; who waits is taken out, and put back asleep. */
-s64 fall_asleep(struct cpu_queue *queue, struct task *task)
+/*
+ * Who runs falls asleep by one call; who waits is taken out, and put back asleep. Whom Linux takes
+ * back doesn't doze: it may come to another queue, where nothing is known of its place.
+ */
+s64 put_to_sleep(struct cpu_queue *queue, struct task *task, bool falls_asleep)
 {
 	u64 number = number_of(task);
 	eevdf_hand hand;
@@ -157,7 +164,7 @@ s64 fall_asleep(struct cpu_queue *queue, struct task *task)
 	if (call_is_asleep(queue, number))
 		return 0;
 	if (call_running(queue) == number)
-		return call_sleep(queue, number);
+		return falls_asleep && dozes ? call_doze(queue, number) : call_sleep(queue, number);
 	eevdf_hand_open(&hand);
 	answer = call_take(queue, &hand, number);
 	return answer < 0 ? answer : call_put_asleep(queue, &hand);

@@ -36,7 +36,7 @@ u64 slice_ns(void);
 /* What goes on in one queue, under its lock. Each answers 0 or more, or what has failed. */
 s64 charge(struct cpu_queue *queue);
 s64 make_runnable(struct cpu_queue *queue, struct task *task);
-s64 fall_asleep(struct cpu_queue *queue, struct task *task);
+s64 put_to_sleep(struct cpu_queue *queue, struct task *task, bool falls_asleep);
 void rebase_in_time(struct cpu_queue *queue);
 void set_timer(struct cpu_queue *queue);
 /* Linux has left the task to this scheduler, or takes it back. */

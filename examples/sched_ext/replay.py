@@ -120,7 +120,7 @@ class Machine:
                 return record.queue, record.other
             case "pull_task":
                 return record.queue, record.other, record.task
-            case "end" | "run" | "sleep" | "wake" | "is_asleep" | "entry_of":
+            case "end" | "run" | "sleep" | "doze" | "wake" | "is_asleep" | "entry_of":
                 return record.queue, record.task
             case _:
                 return (record.queue,)
@@ -131,7 +131,7 @@ class Machine:
             return f"it begins at {record.third}, and the virtual time is {self.state(record.queue)[0]}"
         name = "yield_" if record.call == "yield" else record.call
         answer, had = getattr(self.model, name)(*self.numbers_of(record)), record.answer
-        if record.call == "rebase":
+        if record.call in ("rebase", "doze"):
             had = [record.answer, record.first]
         elif record.call == "entry_of":
             answer, had = answer[:3], [record.answer, record.second, record.first]
@@ -217,12 +217,20 @@ def another_level(name):
     return lambda one, other: [replace(one, first=one.first - 1 if one.first > 0 else one.first + 1), other] if one.call == name else None
 
 
+def another_call(name, other_name):
+    return lambda one, other: [replace(one, call=other_name), other] if one.call == name and one.answer >= 0 else None
+
+
+def another_lag(one, other):
+    return [replace(one, first=one.first + 1), other] if one.call == "doze" and one.answer >= 0 else None
+
+
 def twice(name):
     return lambda one, other: [one, one, other] if one.call == name and one.answer >= 0 else None
 
 
 def turned(one, other):
-    changing = {"pick", "wake", "tick", "sleep", "take", "put_asleep", "yield", "run", "stop", "set"}
+    changing = {"pick", "wake", "tick", "sleep", "doze", "take", "put_asleep", "yield", "run", "stop", "set"}
     apart = one.call in changing and other.call in changing and one.call != other.call and one.queue == other.queue
     return [other, one] if apart else None
 
@@ -236,6 +244,9 @@ CHANGES = {
     "a charge is made twice": twice("tick"),
     "a wake is left out": left_out("wake"),
     "a sleep is left out": left_out("sleep"),
+    "a doze is left out": left_out("doze"),
+    "a sleep in the place of a doze": another_call("doze", "sleep"),
+    "a doze of another lag": another_lag,
     "a pick is left out": left_out("pick"),
     "a new task is left out": left_out("admit"),
     "an end is left out": left_out("end"),

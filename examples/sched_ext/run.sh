@@ -4,8 +4,8 @@
 #   load, unload       the module and the scheduler
 #   load_plain, unload_plain  a scheduler without operations in their place, so that Linux's own part of sched_ext runs the tasks
 #   shares=SECONDS     shares of four hogs beside a task that sleeps, and how late that wakes
-#   naps=SECONDS       what those have that nap: one after 4 ms each beside seven that compute, two after 2 ms beside one, and two after
-#                      0.5 ms beside one, for so long each
+#   naps=SECONDS       what those have that nap: for 1 us one after 4 ms each beside seven that compute, two after 2 ms beside one, and two
+#                      after 0.5 ms beside one; and two for 0.5 ms after 0.5 ms beside one; for so long each
 #   hunt=SECONDS       a hunt for a task that stands still, of less than 5 s: Linux's watchdog allows no longer waits
 #   cpus=SECONDS       the same among tasks that change each other's CPUs
 #   forks              forks until one is refused

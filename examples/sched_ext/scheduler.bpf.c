@@ -9,6 +9,7 @@
 #include <bpf/bpf_tracing.h>
 
 #include "common.h"
+#include "names.bpf.h"
 
 typedef __s32 s32;
 typedef __s64 s64;
@@ -20,6 +21,7 @@ typedef __u64 u64;
 #define KICK_PREEMPT 2
 #define WAKE_FORK 4
 #define KEEP_EXITING 4	/* SCX_OPS_ENQ_EXITING: tasks that end are enqueued as others are */
+#define FALLS_ASLEEP 1	/* SCX_DEQ_SLEEP */
 #define TRIES 8
 
 struct task_struct {
@@ -57,7 +59,7 @@ extern void queues_end(struct task_struct *p) __ksym;
 extern void queues_leave(struct task_struct *p) __ksym;
 extern s32 queues_place(struct task_struct *p, s32 cpu) __ksym;
 extern s64 queues_enqueue(struct task_struct *p) __ksym;
-extern s64 queues_take_back(struct task_struct *p) __ksym;
+extern s64 queues_take_back(struct task_struct *p, bool falls_asleep) __ksym;
 extern struct task_struct *queues_pick(s32 cpu, s64 *failed) __ksym;
 extern bool queues_confirm(s32 cpu, struct task_struct *p) __ksym;
 extern s64 queues_go_on(s32 cpu) __ksym;
@@ -67,11 +69,7 @@ extern s64 queues_tick(struct task_struct *p) __ksym;
 extern s64 queues_yield(struct task_struct *p) __ksym;
 extern s64 queues_set_weight(struct task_struct *p) __ksym;
 
-/* Linux's; from 6.13 on scx_bpf_dispatch is called scx_bpf_dsq_insert. */
-extern void scx_bpf_dispatch(struct task_struct *p, u64 queue, u64 slice, u64 flags)
-	__ksym __weak;
-extern void scx_bpf_dsq_insert(struct task_struct *p, u64 queue, u64 slice, u64 flags)
-	__ksym __weak;
+/* Linux's, beside those of names.bpf.h. */
 extern void bpf_task_release(struct task_struct *p) __ksym;
 extern void scx_bpf_dispatch_cancel(void) __ksym;
 extern s32 scx_bpf_task_cpu(const struct task_struct *p) __ksym;
@@ -117,15 +115,7 @@ void BPF_PROG(on_enqueue, struct task_struct *p, u64 flags)
 SEC("struct_ops/dequeue")
 void BPF_PROG(on_dequeue, struct task_struct *p, u64 flags)
 {
-	look_at(queues_take_back(p));
-}
-
-static void dispatch(struct task_struct *p)
-{
-	if (bpf_ksym_exists(scx_bpf_dsq_insert))
-		scx_bpf_dsq_insert(p, LOCAL_QUEUE, SLICE_INF, 0);
-	else
-		scx_bpf_dispatch(p, LOCAL_QUEUE, SLICE_INF, 0);
+	look_at(queues_take_back(p, flags & FALLS_ASLEEP));
 }
 
 /*
@@ -148,7 +138,7 @@ void BPF_PROG(on_dispatch, s32 cpu, struct task_struct *before)
 				look_at(queues_go_on(cpu));
 			return;
 		}
-		dispatch(p);
+		put_into(p, LOCAL_QUEUE, SLICE_INF);
 		is_confirmed = queues_confirm(cpu, p);
 		bpf_task_release(p);
 		if (is_confirmed)
@@ -180,7 +170,7 @@ void BPF_PROG(on_stopping, struct task_struct *p, bool is_runnable)
 SEC("struct_ops/quiescent")
 void BPF_PROG(on_quiescent, struct task_struct *p, u64 flags)
 {
-	look_at(queues_take_back(p));
+	look_at(queues_take_back(p, flags & FALLS_ASLEEP));
 }
 
 SEC("struct_ops/yield")

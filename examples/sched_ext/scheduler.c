@@ -122,7 +122,7 @@ s64 enqueue(struct task_struct *linux_task)
 	return answer;
 }
 
-s64 take_back(struct task_struct *linux_task)
+s64 take_back(struct task_struct *linux_task, bool falls_asleep)
 {
 	struct task *task = task_of(linux_task);
 	struct cpu_queue *queue = task ? lock_home(task) : NULL;
@@ -132,7 +132,7 @@ s64 take_back(struct task_struct *linux_task)
 		return 0;
 	answer = charge(queue);
 	if (answer >= 0)
-		answer = fall_asleep(queue, task);
+		answer = put_to_sleep(queue, task, falls_asleep);
 	unlock_queue(queue);
 	return answer;
 }

@@ -19,8 +19,8 @@ int place(struct task_struct *linux_task, int cpu);
 
 /* A task waits for its turn. Answers which CPUs have to be told, by the bits of common.h. */
 s64 enqueue(struct task_struct *linux_task);
-/* Linux takes back a task that waited; and one falls asleep. */
-s64 take_back(struct task_struct *linux_task);
+/* Linux takes back a task, for a while or since it falls asleep. */
+s64 take_back(struct task_struct *linux_task, bool falls_asleep);
 
 /*
  * Who is to run on this CPU, or NULL: whoever ran goes on, or nobody is there, or the pick has
