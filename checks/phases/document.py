@@ -27,6 +27,7 @@ class Plan:
     tick: int
     pull: bool
     preempt: str
+    sleep: str
     seed: int
     kinds: list
 
@@ -64,4 +65,4 @@ def read(text):
     document = tomllib.loads(text)
     machine = document["machine"]
     return Plan(machine.get("cpus", 1), length_of(machine["lasts"]), length_of(machine.get("tick", "0")), machine.get("pull", True),
-                machine.get("preempt", "wakeup"), document.get("seed", 0), [kind_of(task) for task in document["task"]])
+                machine.get("preempt", "wakeup"), machine.get("sleep", "sleep"), document.get("seed", 0), [kind_of(task) for task in document["task"]])

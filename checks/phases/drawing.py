@@ -18,6 +18,22 @@ home = 1
 phases = [{ run = "300ms" }, { sleep = "300ms" }]
 '''
 
+# Each task waits more than a hundred times, so that a wait in a hundred is left out of the p99.
+MANY_WAITS = '''version = 1
+seed = 5
+[machine]
+lasts = "400ms"
+[[task]]
+name = "a"
+count = 3
+phases = [{ run = "1ns..3ms" }, { sleep = "1ns..900us" }, { nice = 3 }, { run = "1us..1ms" }, { nice = -4 }]
+[[task]]
+name = "b"
+nice = 7
+slice = "300us"
+phases = [{ run = "10us..90us" }, { sleep = "1us..2ms" }]
+'''
+
 LENGTHS = ["37us", "100us", "250us", "1ms", "1500us", "2ms", "3ms", "7ms", "999999ns"]
 RANGES = ["100us..900us", "1ms..4ms", "1ns..2ms", "3ms..3ms"]
 
@@ -101,6 +117,8 @@ def draw(random):
         lines.append('preempt = "tick"')
     if random.random() < 0.2:
         lines.append("pull = false")
+    if random.random() < 0.3:
+        lines.append('sleep = "doze"')
     for name in names:
         lines += task(random, name, names, cpus)
     return "\n".join(lines) + "\n"

@@ -1,4 +1,9 @@
-"""Workloads of phases with one fault each, and what is said of it. In place of a whole one stands what differs from a good one."""
+"""Workloads of phases with one fault each, and what is said of it. In place of a whole one stands what differs from a good one. What is
+marked stands between two signs that are no part of the text, as in checks/faults/."""
+
+import re
+
+from faults.marked import BEGIN, END, said_of
 
 GOOD = '''version = 1
 [machine]
@@ -16,79 +21,126 @@ LENGTH = 'a length of time, as "3ms", of 1ns to 1000000s'
 LENGTH_OR_RANGE = 'a length of time, as "3ms", or a range, as "2ms..5ms", of 1ns to 1000000s'
 RUN = '{ run = "1ms" }'
 NAME = "a text of 1 to 64 letters, digits, - and _, and not - alone"
+LOOP, CLOSED = "{ loop = 2, phases = [", "] }"
+# what the kit's reader of TOML says
+NOT_TOML, NO_VALUE = "not a TOML document", "invalid value, expected a string, number, boolean, date-time, array or inline table"
 NO_TIME = "a list of phases without run, sleep, timer or end takes no time"
 
 # (what is replaced, by what, the line)
 FAULTS = [
-    ("version = 1", "version = [", "not a TOML document"),
+    ("version = 1\n[machine]", "version = [\n[«machine»]", NOT_TOML),
     ("version = 1", "", "missing version"),
-    ("version = 1", "version = 2", "bad value of version, which is the number 1"),
-    ("version = 1", "version = 1\nverison = 1", 'unknown key "verison"'),
-    ("version = 1", "version = 1\nseed = -1", "bad value of seed, which is a whole number from 0 on"),
-    ("[machine]", "[machines]", 'unknown key "machines"'),
-    ('[machine]\ncpus = 2\nlasts = "10ms"', "machine = 3", "bad value of machine, which is a table"),
+    ("version = 1", "version = «2»", "bad value of version, which is the number 1"),
+    ("version = 1", "version = 1\n«verison» = 1", 'unknown key "verison"; the nearest that is known is version'),
+    ("version = 1", "version = 1\nseed = «-1»", "bad value of seed, which is a whole number from 0 on"),
+    ("[machine]", "«[machines]»", 'unknown key "machines"; the nearest that is known is machine'),
+    ('[machine]\ncpus = 2\nlasts = "10ms"', "machine = «3»", "bad value of machine, which is a table"),
     ('[machine]\ncpus = 2\nlasts = "10ms"', "", "missing machine"),
-    ("cpus = 2", "cpus = 0", "machine: bad value of cpus, which is a number from 1 to 64"),
-    ("cpus = 2", "cpus = 65", "machine: bad value of cpus, which is a number from 1 to 64"),
-    ("cpus = 2", 'cpus = "2"', "machine: bad value of cpus, which is a number from 1 to 64"),
-    ("cpus = 2", "cpu = 2", 'machine: unknown key "cpu"'),
-    ('lasts = "10ms"', "", "machine: missing lasts"),
-    ('lasts = "10ms"', 'lasts = "0"', f"machine: bad value of lasts, which is {LENGTH}"),
-    ('lasts = "10ms"', 'lasts = "10"', f"machine: bad value of lasts, which is {LENGTH}"),
-    ('lasts = "10ms"', 'lasts = "10 ms"', f"machine: bad value of lasts, which is {LENGTH}"),
-    ('lasts = "10ms"', 'lasts = "+10ms"', f"machine: bad value of lasts, which is {LENGTH}"),
-    ('lasts = "10ms"', 'lasts = "ms"', f"machine: bad value of lasts, which is {LENGTH}"),
-    ('lasts = "10ms"', 'lasts = "1000001s"', f"machine: bad value of lasts, which is {LENGTH}"),
-    ('lasts = "10ms"', 'lasts = "18446744073709551616ns"', f"machine: bad value of lasts, which is {LENGTH}"),
-    ('lasts = "10ms"', 'lasts = "18446744073709552s"', f"machine: bad value of lasts, which is {LENGTH}"),
-    ('lasts = "10ms"', 'lasts = "10ms"\ntick = 1', 'machine: bad value of tick, which is a length of time, as "3ms", of 0 to 1000000s'),
-    ('lasts = "10ms"', 'lasts = "10ms"\npull = 1', "machine: bad value of pull, which is true or false"),
-    ('lasts = "10ms"', 'lasts = "10ms"\npreempt = "wake"', 'machine: bad value of preempt, which is "wakeup" or "tick"'),
-    ('name = "a"', "", "task 0: missing name"),
-    ('name = "a"', 'name = ""', f"task 0: bad value of name, which is {NAME}"),
-    ('name = "a"', 'name = "a\\n"', f"task 0: bad value of name, which is {NAME}"),
-    ('name = "a"', 'name = "b.0"', f"task 0: bad value of name, which is {NAME}"),
-    ('name = "a"', 'name = "-"', f"task 0: bad value of name, which is {NAME}"),
-    ('name = "a"', f'name = "{"a" * 65}"', f"task 0: bad value of name, which is {NAME}"),
-    (f'phases = [{RUN}]\n[[task]]\nname = "b"', '[[task]]\nname = "a"', 'task 1: another task has the name "a"'),
-    ('name = "b"', 'name = "a"', 'task 1: another task has the name "a"'),
-    ('name = "b"', 'name = "b"\ncount = 0', "task 1: bad value of count, which is a number from 1 to 1024"),
-    ('name = "b"', 'name = "b"\ncount = 1000000', "task 1: bad value of count, which is a number from 1 to 1024"),
-    ('name = "b"', 'name = "b"\ncount = 1024', "task 1: more than 1024 tasks"),
-    ('name = "b"', 'name = "b"\nhome = 2', "task 1: bad value of home, which is the number of a CPU of the machine"),
-    ('name = "b"', 'name = "b"\nnice = 20', "task 1: bad value of nice, which is a number from -20 to 19"),
-    ('name = "b"', 'name = "b"\nslice = "99us"', "task 1: bad value of slice, which is a length of time from 100us to 100ms"),
-    ('name = "b"', 'name = "b"\nslice = 3000000', "task 1: bad value of slice, which is a length of time from 100us to 100ms"),
-    ('name = "b"', 'name = "b"\nbegin = "1ms"', 'task 1: unknown key "begin"'),
-    (f"phases = [{RUN}]", "", "task 0: missing phases"),
-    (f"phases = [{RUN}]", "phases = []", "task 0: bad value of phases, which is a list of 1 to 1000 phases"),
-    (f"phases = [{RUN}]", f"phases = [{', '.join([RUN] * 1001)}]",
+    ("cpus = 2", "cpus = «0»", "machine: bad value of cpus, which is a number from 1 to 64"),
+    ("cpus = 2", "cpus = «65»", "machine: bad value of cpus, which is a number from 1 to 64"),
+    ("cpus = 2", 'cpus = «"2"»', "machine: bad value of cpus, which is a number from 1 to 64"),
+    ("cpus = 2", "«cpu» = 2", 'machine: unknown key "cpu"; the nearest that is known is cpus'),
+    ('[machine]\ncpus = 2\nlasts = "10ms"', "«[machine]»\ncpus = 2", "machine: missing lasts"),
+    ('lasts = "10ms"', 'lasts = «"0"»', f"machine: bad value of lasts, which is {LENGTH}"),
+    ('lasts = "10ms"', 'lasts = «"10"»', f"machine: bad value of lasts, which is {LENGTH}"),
+    ('lasts = "10ms"', 'lasts = «"10 ms"»', f"machine: bad value of lasts, which is {LENGTH}"),
+    ('lasts = "10ms"', 'lasts = «"+10ms"»', f"machine: bad value of lasts, which is {LENGTH}"),
+    ('lasts = "10ms"', 'lasts = «"ms"»', f"machine: bad value of lasts, which is {LENGTH}"),
+    ('lasts = "10ms"', 'lasts = «"1000001s"»', f"machine: bad value of lasts, which is {LENGTH}"),
+    ('lasts = "10ms"', 'lasts = «"18446744073709551616ns"»', f"machine: bad value of lasts, which is {LENGTH}"),
+    ('lasts = "10ms"', 'lasts = «"18446744073709552s"»', f"machine: bad value of lasts, which is {LENGTH}"),
+    ('lasts = "10ms"', 'lasts = "10ms"\ntick = «1»', 'machine: bad value of tick, which is a length of time, as "3ms", of 0 to 1000000s'),
+    ('lasts = "10ms"', 'lasts = "10ms"\npull = «1»', "machine: bad value of pull, which is true or false"),
+    ('lasts = "10ms"', 'lasts = "10ms"\npreempt = «"wake"»', 'machine: bad value of preempt, which is "wakeup" or "tick"'),
+    ('lasts = "10ms"', 'lasts = "10ms"\nsleep = «"nap"»', 'machine: bad value of sleep, which is "sleep" or "doze"'),
+    ('lasts = "10ms"', 'lasts = "10ms"\nsleep = «true»', 'machine: bad value of sleep, which is "sleep" or "doze"'),
+    ('lasts = "10ms"', 'lasts = "10ms"\n«sleeps» = "doze"', 'machine: unknown key "sleeps"; the nearest that is known is sleep'),
+    ('[[task]]\nname = "a"', "«[[task]]»", "task 0: missing name"),
+    ('name = "a"', 'name = «""»', f"task 0: bad value of name, which is {NAME}"),
+    ('name = "a"', 'name = «"a\\n"»', f"task 0: bad value of name, which is {NAME}"),
+    ('name = "a"', 'name = «"b.0"»', f"task 0: bad value of name, which is {NAME}"),
+    ('name = "a"', 'name = «"-"»', f"task 0: bad value of name, which is {NAME}"),
+    ('name = "a"', f'name = «"{"a" * 65}"»', f"task 0: bad value of name, which is {NAME}"),
+    (f'phases = [{RUN}]\n[[task]]\nname = "b"', '[[task]]\nname = «"a"»', 'task 1: another task has the name "a"'),
+    ('name = "b"', 'name = «"a"»', 'task 1: another task has the name "a"'),
+    ('name = "b"', 'name = "b"\ncount = «0»', "task 1: bad value of count, which is a number from 1 to 1024"),
+    ('name = "b"', 'name = "b"\ncount = «1000000»', "task 1: bad value of count, which is a number from 1 to 1024"),
+    ('[[task]]\nname = "b"', '«[[task]]»\nname = "b"\ncount = 1024', "task 1: more than 1024 tasks"),
+    ('name = "b"', 'name = "b"\nhome = «2»', "task 1: bad value of home, which is the number of a CPU of the machine"),
+    ('name = "b"', 'name = "b"\nnice = «20»', "task 1: bad value of nice, which is a number from -20 to 19"),
+    ('name = "b"', 'name = "b"\nslice = «"99us"»', "task 1: bad value of slice, which is a length of time from 100us to 100ms"),
+    ('name = "b"', 'name = "b"\nslice = «3000000»', "task 1: bad value of slice, which is a length of time from 100us to 100ms"),
+    ('name = "b"', 'name = "b"\n«begin» = "1ms"', 'task 1: unknown key "begin"; the nearest that is known is begins'),
+    (f'[[task]]\nname = "a"\nphases = [{RUN}]', '«[[task]]»\nname = "a"', "task 0: missing phases"),
+    (f"phases = [{RUN}]", "phases = «[]»", "task 0: bad value of phases, which is a list of 1 to 1000 phases"),
+    (f"phases = [{RUN}]", f"phases = [{', '.join([RUN] * 1000)}, «{RUN}»]",
      "task 0, phase 1000: bad value of phases, which is a list of 1 to 1000 phases"),
-    (RUN, f'{RUN}, "slep"', 'task 0, phase 1: unknown phase "slep"'),
-    (RUN, "1", "task 0, phase 0: a phase is a text or a table of one phase"),
-    (RUN, '{ run = "1ms", sleep = "1ms" }', "task 0, phase 0: a phase is a text or a table of one phase"),
-    (RUN, '{ slep = "1ms" }', 'task 0, phase 0: unknown key "slep"'),
-    (RUN, "{ run = 1 }", f"task 0, phase 0: bad value of run, which is {LENGTH_OR_RANGE}"),
-    (RUN, '{ run = "0" }', f"task 0, phase 0: bad value of run, which is {LENGTH_OR_RANGE}"),
-    (RUN, '{ run = "5ms..2ms" }', f"task 0, phase 0: bad value of run, which is {LENGTH_OR_RANGE}"),
-    (RUN, '{ run = "1ms..2ms..3ms" }', f"task 0, phase 0: bad value of run, which is {LENGTH_OR_RANGE}"),
-    (RUN, '{ sleep = ".." }', f"task 0, phase 0: bad value of sleep, which is {LENGTH_OR_RANGE}"),
-    (RUN, '{ timer = "0" }', f"task 0, phase 0: bad value of timer, which is {LENGTH}"),
-    (RUN, '{ timer = "1ms..2ms" }', f"task 0, phase 0: bad value of timer, which is {LENGTH}"),
-    (RUN, f"{RUN}, {{ nice = -21 }}", "task 0, phase 1: bad value of nice, which is a number from -20 to 19"),
-    (RUN, f'{RUN}, {{ resume = "c" }}', 'task 0, phase 1: no task has the name "c"'),
-    (RUN, f"{RUN}, {{ resume = 1 }}", "task 0, phase 1: bad value of resume, which is the name of a task"),
-    (RUN, '"yield"', f"task 0: {NO_TIME}"),
-    (RUN, f'{RUN}, {{ loop = 2, phases = ["yield"] }}', f"task 0, phase 1: {NO_TIME}"),
-    (RUN, f"{{ loop = 0, phases = [{RUN}] }}", "task 0, phase 0: bad value of loop, which is a number from 1 to 1000000000"),
-    (RUN, "{ loop = 2 }", "task 0, phase 0: missing phases"),
-    (RUN, f"{{ loop = 2, phases = [{RUN}], run = 1 }}", 'task 0, phase 0: unknown key "run"'),
-    (RUN, "{ loop = 2, phases = [" * 9 + RUN + "] }" * 9, "task 0, phase 0: loops stand in one another more than 8 deep"),
+    (RUN, f'{RUN}, «"slep"»', 'task 0, phase 1: unknown phase "slep"; the nearest that is known is sleep'),
+    (RUN, "«1»", "task 0, phase 0: a phase is a text or a table of one phase"),
+    (RUN, '«{ run = "1ms", sleep = "1ms" }»', "task 0, phase 0: a phase is a text or a table of one phase"),
+    (RUN, '{ «slep» = "1ms" }', 'task 0, phase 0: unknown key "slep"; the nearest that is known is sleep'),
+    (RUN, "{ run = «1» }", f"task 0, phase 0: bad value of run, which is {LENGTH_OR_RANGE}"),
+    (RUN, '{ run = «"0"» }', f"task 0, phase 0: bad value of run, which is {LENGTH_OR_RANGE}"),
+    (RUN, '{ run = «"5ms..2ms"» }', f"task 0, phase 0: bad value of run, which is {LENGTH_OR_RANGE}"),
+    (RUN, '{ run = «"1ms..2ms..3ms"» }', f"task 0, phase 0: bad value of run, which is {LENGTH_OR_RANGE}"),
+    (RUN, '{ sleep = «".."» }', f"task 0, phase 0: bad value of sleep, which is {LENGTH_OR_RANGE}"),
+    (RUN, '{ timer = «"0"» }', f"task 0, phase 0: bad value of timer, which is {LENGTH}"),
+    (RUN, '{ timer = «"1ms..2ms"» }', f"task 0, phase 0: bad value of timer, which is {LENGTH}"),
+    (RUN, f"{RUN}, {{ nice = «-21» }}", "task 0, phase 1: bad value of nice, which is a number from -20 to 19"),
+    (RUN, f'{RUN}, {{ resume = «"c"» }}', 'task 0, phase 1: no task has the name "c"; the nearest that is known is a'),
+    (RUN, f"{RUN}, {{ resume = «1» }}", "task 0, phase 1: bad value of resume, which is the name of a task"),
+    (f"[{RUN}]", '«["yield"]»', f"task 0: {NO_TIME}"),
+    (RUN, f'{RUN}, {{ loop = 2, phases = «["yield"]» }}', f"task 0, phase 1: {NO_TIME}"),
+    (RUN, f"{{ loop = «0», phases = [{RUN}] }}", "task 0, phase 0: bad value of loop, which is a number from 1 to 1000000000"),
+    (RUN, "«{ loop = 2 }»", "task 0, phase 0: missing phases"),
+    (RUN, f"{{ loop = 2, phases = [{RUN}], «run» = 1 }}", 'task 0, phase 0: unknown key "run"'),
+    (RUN, LOOP * 8 + f"«{LOOP}{RUN}{CLOSED}»" + CLOSED * 8, "task 0, phase 0: loops stand in one another more than 8 deep"),
 ]
 
 
+# Some of the faults where the document is written in other forms: the whole text, and the line.
+FORMS = [
+    ("version = 1\nmachine = { cpus = «0», lasts = \"1ms\" }\n", "machine: bad value of cpus, which is a number from 1 to 64"),
+    ("version = 1\nmachine = { lasts = \"1ms\", «cpu» = 2 }\n", 'machine: unknown key "cpu"; the nearest that is known is cpus'),
+    ("version = 1\nmachine = «{ cpus = 2 }»\n", "machine: missing lasts"),
+    ("version = 1\nmachine.cpus = «0» # = 1\nmachine.lasts = \"1ms\"\n", "machine: bad value of cpus, which is a number from 1 to 64"),
+    ("version = 1\n«machine.cpu» = 2\nmachine.lasts = \"1ms\"\n", 'machine: unknown key "cpu"; the nearest that is known is cpus'),
+    ("version = 1\n[machine]\n«cpus.few» = 2\n", "machine: bad value of cpus, which is a number from 1 to 64"),
+    ("version = 1\n«[machine.cpus]»\n", "machine: bad value of cpus, which is a number from 1 to 64"),
+    ("version = 1\n[ machine ] # [machine]\n'lasts' = \"1ms\" # \"\n\"tick\"\t=  «\"1\"»\n",
+     'machine: bad value of tick, which is a length of time, as "3ms", of 0 to 1000000s'),
+    ("\ufeffversion = 1\nseed = «-1»\n", "bad value of seed, which is a whole number from 0 on"),
+    ("version = 1\nseed = «1979-05-27 07:32:00»\n", "bad value of seed, which is a whole number from 0 on"),
+    ("version = 1\ntask = «3»\n[machine]\nlasts = \"1ms\"\n", "bad value of task, which is tables, as [[task]]"),
+    ("version = 1\n[machine]\nlasts = \"1ms\"\n«[task]»\n", "bad value of task, which is tables, as [[task]]"),
+    ("version = 1\ntask = [\n  # one\n  «{}»,\n]\n[machine]\nlasts = \"1ms\"\n", "task 0: missing name"),
+    ("version = 1\ntask = [{ name = \"a\", phases = [" + RUN + "] }, «2»]\n[machine]\nlasts = \"1ms\"\n",
+     "task 1: bad value of task, which is tables, as [[task]]"),
+    ("version = 1\nmachine.lasts = \"1ms\"\n[[task]]\nname = \"a\"\n[[task.phases]]\nrun = \"1ms\"\n"
+     "[[task]]\nname = \"b\"\n[[task.phases]]\nrun = \"1ms\"\n[[task.phases]]\nsleep = «1»\n",
+     f"task 1, phase 1: bad value of sleep, which is {LENGTH_OR_RANGE}"),
+    ("version = 1\nmachine.lasts = \"1ms\"\n[[task]]\nname = \"a\"\n[[task.phases]]\nrun = \"1ms\"\n"
+     "«[[task.phases]]»\nloop = 2\n", "task 0, phase 1: missing phases"),
+    (GOOD.replace(RUN, '{ loop = 2, phases = ["yield", { loop = 3, phases = [\n  { run = "1ms" }, # ]\n  { sleep = «"0"» },\n] }] }', 1),
+     f"task 0, phase 0: bad value of sleep, which is {LENGTH_OR_RANGE}"),
+    (GOOD.replace(RUN, RUN + ', { loop = 2, phases = ["yield", «"slep"»] }', 1),
+     'task 0, phase 1: unknown phase "slep"; the nearest that is known is sleep'),
+    (GOOD.replace(RUN, RUN + ", { loop = 2, phases = [" + RUN + ", { nice = «20» }] }", 1),
+     "task 0, phase 1: bad value of nice, which is a number from -20 to 19"),
+    ("version = 1\nmachine.lasts = \"1ms\"\ntask = [{ phases = ['é[]{},\"'], name = «\"é\"» }]\n",
+     f"task 0: bad value of name, which is {NAME}"),
+]
+
+
+def said_at(text, line):
+    """The explanation of a fault: its words without the place, where a place is marked."""
+    words = NO_VALUE if line == NOT_TOML else re.sub(r"^(machine|task [0-9]+(, phase [0-9]+)?): ", "", line)
+    return said_of(text, words) if BEGIN in text else ""
+
+
 def faulty():
-    """The text of each, and the line."""
-    for old, new, line in FAULTS:
-        assert old in GOOD
-        yield GOOD.replace(old, new, 1), f"fault: {line}\n"
+    """The text of each, and all that is said of it."""
+    texts = [(GOOD.replace(old, new, 1), line) for old, new, line in FAULTS if old in GOOD]
+    assert len(texts) == len(FAULTS)
+    for text, line in texts + FORMS:
+        yield text.replace(BEGIN, "").replace(END, ""), f"fault: {line}\n{said_at(text, line)}"

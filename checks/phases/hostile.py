@@ -10,6 +10,8 @@ TOO_MANY = b"fault: script of more than 640000 deeds; these are the first\n"
 LOOPS = "{ loop = 1000000000, phases = [" * 8 + '{ run = "1ns" }, "yield"' + "] }" * 8
 PING = 'name = "ping"\nphases = [{ resume = "pong" }, "suspend", { run = "1ns" }]'
 PONG = 'name = "pong"\nphases = [{ resume = "ping" }, "suspend", { run = "1ns" }]'
+RESUMES = '{ resume = "b" }, ' * 999
+BESIDE = 'name = "b"\ncount = 1023\nbegins = "1s"\nphases = [{ run = "1ms" }]'
 
 HOSTILE = {
     "a timer of 1 ns": (workload('lasts = "1000000s"', 'name = "a"\nphases = [{ timer = "1ns" }]'), 1, TOO_LONG),
@@ -25,10 +27,12 @@ HOSTILE = {
                          TOO_LONG),
     "40000 names": ('version = 1\ntask = [' + ", ".join(f'{{ name = "a{number}" }}' for number in range(40000)) + ']\n'
                      '[machine]\nlasts = "1ms"\n', 1, b"fault: task 1024: more than 1024 tasks\n"),
+    "999 resumes each nanosecond, and nobody suspended": (
+        workload('lasts = "20us"', f'name = "a"\nphases = [{RESUMES}{{ run = "1ns" }}]', BESIDE), 0, b""),
     "out of range": (workload('lasts = "1000000s"\ntick = "1000000s"', 'name = "a"\nnice = 19\nphases = [{ run = "1000000s" }]'), 1,
                      TOO_LONG),
 }
 
 # It has 6 deeds in each 2 us.
 MANY_DEEDS = workload('lasts = "400ms"', 'name = "a"\nphases = [{ run = "1us" }, { sleep = "1us" }]')
-ROWS_OF_MANY = ["a: 200000000, 50.00 %; 200000, 0, 0; 200000; 0"]
+ROWS_OF_MANY = ["a: 200000000, 50.00 %, 50.00 %; 200000, 0, 0, 0; 200000; 0"]

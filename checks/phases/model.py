@@ -113,7 +113,7 @@ class Machine:
         words = answer.split()
         if words[0] in ("charged", "picked", "pulled"):
             return self.actors[int(words[1])].name
-        return self.actors[operation[1]].name if operation[0] in ("sleep", "wake", "renice", "end") else "-"
+        return self.actors[operation[1]].name if operation[0] in ("sleep", "doze", "wake", "renice", "end") else "-"
 
     def next_deed(self):
         while True:
@@ -238,7 +238,7 @@ class Machine:
     def fall_asleep(self, number, actor, moment):
         actor.sleeps_until = moment
         self.leave(number)
-        return number, ("sleep", actor.number)
+        return number, (self.plan.sleep, actor.number)
 
     def leave(self, number):
         self.cpus[number].task = None

@@ -20,7 +20,7 @@ def moment_text(moment):
 def script_lines(plan):
     """The workload, line by line."""
     machine = Machine(plan)
-    yield "version = 3"
+    yield f"version = {4 if plan.sleep == 'doze' else 3}"
     yield f"program = [{', '.join(['[]'] * plan.cpus)}]"
     yield "script = ["
     for cpu, operation, _answer, moment, name in machine.deeds():

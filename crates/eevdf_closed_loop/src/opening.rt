@@ -1,7 +1,8 @@
 //! The machine and the tasks of a plan at the start.
 
-ghost use Rattle.std.specs.Prelude.{◌≡◌, ◌≤◌, length, IfOk};
+ghost use Rattle.std.specs.Prelude.{◌≡◌, ◌≤◌, ◌++◌, length, IfOk, IfSome};
 ghost use Rattle.eevdf_ops.specs.Setup.{cpus_of};
+ghost use Rattle.eevdf_closed_loop.specs.Tasks as given;
 
 use crate::actor::{Actor, Condition};
 use crate::draws::Draws;
@@ -38,7 +39,8 @@ impl From<AllocError> for OpenFault {
 /// The setup of a plan: its tasks by group, each asleep that begins later than at 0, and a program without operations for each CPU.
 pub fn setup_of(alloc: Global, plan: &Plan) -> Result<Setup, OpenFault>
     ensures cpus { IfOk result (λ setup. cpus_of setup ≡ plan.now.cpus) }
-    ensures tasks { IfOk result (λ setup. 1 ≤ length setup.tasks) }
+    ensures tasks { IfOk result (λ setup. setup.tasks ≡ given.tasks_of plan.now.cpus plan.now.groups.items) }
+    ensures some { IfOk result (λ setup. 1 ≤ length setup.tasks) }
 {
     if plan.cpus == 0 || plan.cpus > CpuId::COUNT {
         return Err(OpenFault::BadCpus);
@@ -100,7 +102,10 @@ fn push_tasks(
     place: usize,
     group: &Group,
     cpus: usize,
-) -> Result<(), OpenFault> {
+) -> Result<(), OpenFault>
+    ensures { IfOk result (λ _. tasks.new.items ≡
+        tasks.old.items ++ given.first_tasks cpus group.now group.now.count) }
+{
     for number in 0..group.count {
         if tasks.len() >= TaskId::COUNT {
             return Err(OpenFault::BadTasks);
@@ -122,7 +127,9 @@ fn push_tasks(
 }
 
 /// The home of a group's task of this number within the group, if it is a CPU.
-fn home_of(group: &Group, number: usize, cpus: usize) -> Option<CpuId> {
+fn home_of(group: &Group, number: usize, cpus: usize) -> Option<CpuId>
+    ensures { IfSome result (λ home. home ≡ given.home_of cpus group.now.home number) }
+{
     let home = match group.home {
         Some(home) => home,
         None => number.checked_rem(cpus)?,

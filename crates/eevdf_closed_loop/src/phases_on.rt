@@ -1,7 +1,8 @@
 //! How a running task goes on from phase to phase.
 
 use crate::actor::Condition;
-use crate::phase::Phase;
+use crate::phase::{Phase, Span};
+use crate::plan::FallAsleep;
 use crate::processor::Picks;
 use crate::schedule::Schedule;
 use crate::stop::Stop;
@@ -40,59 +41,83 @@ impl Schedule {
 
     /// What the next phase of the running task comes to. `None` where the plan has no such task, CPU, group or phase.
     fn go_on_once(&mut self, place: usize, running: usize, now: u64) -> Option<Step> {
-        let actor = self.actors.get_mut(running)?;
-        if actor.left > 0 {
+        if self.actors.get(running)?.left > 0 {
             return Some(Step::Runs);
         }
-        let phases = &self.plan.groups.get(actor.group)?.phases;
-        if actor.at >= phases.len() {
-            actor.at = 0;
-        }
-        let phase = *phases.get(actor.at)?;
         let cpu = self.processors.get(place)?.id;
-        let task = actor.id;
-        let group = actor.group;
-        match phase {
-            Phase::Run(span) => {
-                actor.at = actor.at.saturating_add(1);
-                actor.left = actor.draws.length(span);
-                Some(Step::Next)
-            }
-            Phase::Sleep(span) => {
-                let length = actor.draws.length(span);
-                let until = now.saturating_add(length);
-                self.falls_asleep(cpu, running, Condition::Until(until))
-            }
-            Phase::Timer(period) => {
-                let until = actor.next_period(now, period);
-                self.falls_asleep(cpu, running, Condition::Until(until))
-            }
-            Phase::Suspend => self.suspend(cpu, running, group),
-            Phase::Resume(resumed) => self.resume(cpu, running, resumed, now),
-            Phase::Yield => {
-                actor.at = actor.at.saturating_add(1);
-                self.processors.get_mut(place)?.picks = Picks::Now;
-                Some(Step::Done(Deed::Yield { cpu }))
-            }
+        match self.next_phase(running)? {
+            Phase::Run(span) => self.run(running, span),
+            Phase::Sleep(span) => self.sleep(cpu, running, span, now),
+            Phase::Timer(period) => self.wait_for_timer(cpu, running, period, now),
+            Phase::Suspend => self.suspend(cpu, running),
+            Phase::Resume(group) => self.resume(cpu, running, group, now),
+            Phase::Yield => self.pick_after(cpu, running, Deed::Yield { cpu }),
             Phase::Nice(nice) => {
-                actor.at = actor.at.saturating_add(1);
-                self.processors.get_mut(place)?.picks = Picks::Now;
-                Some(Step::Done(Deed::Renice { cpu, task, nice }))
+                let task = self.actors.get(running)?.id;
+                self.pick_after(cpu, running, Deed::Renice { cpu, task, nice })
             }
             Phase::Again {
                 first,
                 depth,
                 rounds,
             } => {
-                actor.go_again(first, depth, rounds);
+                self.actors.get_mut(running)?.go_again(first, depth, rounds);
                 Some(Step::Next)
             }
-            Phase::End => {
-                actor.condition = Condition::Ended;
-                self.processors.get_mut(place)?.loses_task();
-                Some(Step::Done(Deed::End { cpu, task }))
-            }
+            Phase::End => self.end(cpu, running),
         }
+    }
+
+    /// The next phase of a task: the first one again after the last.
+    fn next_phase(&mut self, running: usize) -> Option<Phase> {
+        let actor = self.actors.get_mut(running)?;
+        let phases = &self.plan.groups.get(actor.group)?.phases;
+        if actor.at >= phases.len() {
+            actor.at = 0;
+        }
+        phases.get(actor.at).copied()
+    }
+
+    /// The running task is to run for a time.
+    fn run(&mut self, running: usize, span: Span) -> Option<Step> {
+        let actor = self.actors.get_mut(running)?;
+        actor.left = actor.draws.length(span);
+        self.pass(running)
+    }
+
+    /// The running task sleeps for a time.
+    fn sleep(&mut self, cpu: CpuId, running: usize, span: Span, now: u64) -> Option<Step> {
+        let length = self.actors.get_mut(running)?.draws.length(span);
+        let until = now.saturating_add(length);
+        self.falls_asleep(cpu, running, Condition::Until(until))
+    }
+
+    /// The running task sleeps until the next moment of a timer.
+    fn wait_for_timer(
+        &mut self,
+        cpu: CpuId,
+        running: usize,
+        period: u64,
+        now: u64,
+    ) -> Option<Step> {
+        let until = self.actors.get(running)?.next_period(now, period);
+        self.falls_asleep(cpu, running, Condition::Until(until))
+    }
+
+    /// The running task does a deed after which its CPU picks before anything else.
+    fn pick_after(&mut self, cpu: CpuId, running: usize, deed: Deed) -> Option<Step> {
+        let _ = self.pass(running);
+        self.processors.get_mut(cpu.index())?.picks = Picks::Now;
+        Some(Step::Done(deed))
+    }
+
+    /// The running task ends.
+    fn end(&mut self, cpu: CpuId, running: usize) -> Option<Step> {
+        let actor = self.actors.get_mut(running)?;
+        actor.condition = Condition::Ended;
+        let task = actor.id;
+        self.processors.get_mut(cpu.index())?.loses_task();
+        Some(Step::Done(Deed::End { cpu, task }))
     }
 
     /// The running task falls asleep, and has gone through the phase that says so.
@@ -105,29 +130,33 @@ impl Schedule {
             self.sleeps_until(running, moment);
         }
         self.processors.get_mut(cpu.index())?.loses_task();
-        Some(Step::Done(Deed::Sleep { cpu, task }))
+        Some(Step::Done(match self.plan.fall_asleep {
+            FallAsleep::Sleep => Deed::Sleep { cpu, task },
+            FallAsleep::Doze => Deed::Doze { cpu, task },
+        }))
     }
 
     /// The running task is suspended, unless a resume of its group has been kept.
-    fn suspend(&mut self, cpu: CpuId, running: usize, group: usize) -> Option<Step> {
-        let kept = self.kept.get_mut(group)?;
-        if *kept == 0 {
-            return self.falls_asleep(cpu, running, Condition::Suspended);
+    fn suspend(&mut self, cpu: CpuId, running: usize) -> Option<Step> {
+        let group = self.actors.get(running)?.group;
+        let resumes = self.resumes.get_mut(group)?;
+        if resumes.take() {
+            return self.pass(running);
         }
-        *kept = kept.saturating_sub(1);
-        self.pass(running)
+        resumes.suspends(running);
+        self.falls_asleep(cpu, running, Condition::Suspended)
     }
 
     /// The running task resumes a task of a group, when the home of that one is charged.
     fn resume(&mut self, cpu: CpuId, running: usize, group: usize, now: u64) -> Option<Step> {
         let Some((resumed, task, home)) = self.suspended_of(group) else {
-            let kept = self.kept.get_mut(group)?;
-            *kept = kept.saturating_add(1);
+            self.resumes.get_mut(group)?.keep();
             return self.pass(running);
         };
         if let Some(deed) = self.charge(home.index(), now) {
             return Some(Step::Done(deed));
         }
+        self.resumes.get_mut(group)?.resumes(resumed);
         self.actors.get_mut(resumed)?.condition = Condition::Runnable;
         let _ = self.pass(running);
         Some(Step::Done(Deed::Wake {
@@ -139,7 +168,9 @@ impl Schedule {
 
     /// The suspended task of least number of a group: its place, its number and its home.
     fn suspended_of(&self, group: usize) -> Option<(usize, TaskId, CpuId)> {
-        for (place, actor) in self.actors.iter().enumerate() {
+        let first = self.resumes.get(group)?.first()?;
+        for place in first..self.actors.len() {
+            let actor = self.actors.get(place)?;
             if actor.group == group && actor.condition == Condition::Suspended {
                 return Some((place, actor.id, actor.home));
             }

@@ -12,6 +12,15 @@ pub enum Preempt {
     Wakeup,
 }
 
+/// By which deed a task falls asleep.
+#[derive(Clone, Copy, PartialEq, Eq, Debug)]
+pub enum FallAsleep {
+    /// It keeps the lag that it has.
+    Sleep,
+    /// It keeps no debt, and comes back no earlier than where it left.
+    Doze,
+}
+
 /// Tasks of one kind, whose numbers follow one another.
 #[derive(Drop)]
 pub struct Group {
@@ -40,6 +49,7 @@ pub struct Plan {
     /// Whether a CPU that has nothing to run pulls a task from another one.
     pub pull: bool,
     pub preempt: Preempt,
+    pub fall_asleep: FallAsleep,
     /// From what lengths of time are drawn.
     pub seed: u64,
     pub groups: Vec<Group>,

@@ -6,6 +6,7 @@ use crate::actor::{Actor, Condition};
 use crate::opening::{actors_of, processors_of};
 use crate::plan::{Plan, Preempt};
 use crate::processor::{NEVER, Picks, Processor};
+use crate::resumes::Resumes;
 use crate::stop::Stop;
 use eevdf_ops::{Answer, CpuId, Deed, Line, Setup, Solo};
 use eevdf_queue::TaskId;
@@ -18,8 +19,8 @@ pub(crate) struct Schedule {
     pub plan: Plan,
     pub actors: Vec<Actor>,
     pub processors: Vec<Processor>,
-    /// How many resumes of each group have found no task suspended and were kept.
-    pub kept: Vec<u64>,
+    /// The suspended tasks and the kept resumes of each group.
+    pub resumes: Vec<Resumes>,
     /// The least moment until which a task sleeps, and the place of the first such task.
     pub wakes_at: u64,
     pub wakes: usize,
@@ -30,15 +31,15 @@ impl Schedule {
     pub fn open(alloc: Global, setup: &Setup, plan: Plan) -> Result<Schedule, AllocError> {
         let actors = actors_of(alloc, setup, &plan)?;
         let processors = processors_of(alloc, setup, plan.tick)?;
-        let mut kept = Vec::with_capacity(alloc, plan.groups.len())?;
+        let mut resumes = Vec::with_capacity(alloc, plan.groups.len())?;
         for _group in 0..plan.groups.len() {
-            kept.push(0)?;
+            resumes.push(Resumes::at_start())?;
         }
         let mut schedule = Schedule {
             plan,
             actors,
             processors,
-            kept,
+            resumes,
             wakes_at: NEVER,
             wakes: 0,
         };

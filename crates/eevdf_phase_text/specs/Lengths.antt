@@ -10,6 +10,10 @@ IsParted text front each =
     ⊎ ((text ≡ front ++ codes "ms") × (each ≡ 1000000))
     ⊎ ((text ≡ front ++ codes "s") × (each ≡ 1000000000))
 
+-- in no other way does the text have digits in front of a unit
+abbrev pub IsOnlyPart : List ℕ → List ℕ → ℕ → Type 0
+IsOnlyPart text digits unit = (front : List ℕ) (each : ℕ) → IsParted text front each → IsNumeral 10 front → (front ≡ digits) × (each ≡ unit)
+
 -- the text is 0, or a whole number with its unit right behind it, and the time is so many nanoseconds
 abbrev pub IsLength : List ℕ → ℕ → Type 0
 IsLength text ns =
@@ -21,3 +25,7 @@ abbrev pub IsSpan : List ℕ → ℕ → ℕ → Type 0
 IsSpan text least most =
     (IsLength text least × (most ≡ least))
     ⊎ ((front : List ℕ) × (back : List ℕ) × (text ≡ front ++ codes ".." ++ back) × IsLength front least × IsLength back most)
+
+-- the text is no other span
+abbrev pub IsOnlySpan : List ℕ → ℕ → ℕ → Type 0
+IsOnlySpan text first last = (least most : ℕ) → IsSpan text least most → (least ≡ first) × (most ≡ last)

@@ -3,6 +3,7 @@
 ghost use Rattle.std.specs.Prelude.{◌≤◌, IfOk};
 
 use crate::lengths::{MOST_NS, length};
+use crate::near_words::nearest_key;
 use crate::phase_fault::{Key, PhaseFault, Place, Wrong};
 use std::alloc::Global;
 use toml::{Table, Value};
@@ -95,7 +96,8 @@ pub(crate) fn known_alone(
     for name in table.keys() {
         if !is_among(name.as_str(), known) {
             let word = String::from_str(alloc, name.as_str())?;
-            return Err(place.fault(Wrong::UnknownKey(word)));
+            let nearest = nearest_key(alloc, name.as_str(), known)?;
+            return Err(place.fault(Wrong::UnknownKey { word, nearest }));
         }
     }
     Ok(())

@@ -1,5 +1,6 @@
 //! Why a workload of phases is refused.
 
+use crate::phase_path::PhasePath;
 use std::alloc::{AllocError, AllocFailed};
 use std::error::Error;
 use std::fmt;
@@ -10,17 +11,21 @@ pub enum Place {
     Document,
     Machine,
     Task(usize),
-    /// A phase of a task, or one within it, where it is a loop.
-    Phase { task: usize, phase: usize },
+    /// A phase of a task.
+    Phase { task: usize, path: PhasePath },
 }
 
+/// Of a phase in a loop the place of the outermost loop is told.
 impl fmt::Display for Place {
     fn fmt<W: fmt::Write>(&self, f: &mut fmt::Formatter<W>) -> fmt::Result {
         match *self {
             Place::Document => Ok(()),
             Place::Machine => f.write_str("machine: "),
             Place::Task(task) => write!(f, "task {task}: "),
-            Place::Phase { task, phase } => write!(f, "task {task}, phase {phase}: "),
+            Place::Phase { task, path } => {
+                let phase = path.outermost;
+                write!(f, "task {task}, phase {phase}: ")
+            }
         }
     }
 }
@@ -36,6 +41,8 @@ pub enum Key {
     Tick,
     Pull,
     Preempt,
+    /// That of a machine; `Sleep` is a phase.
+    FallAsleep,
     Task,
     Name,
     Count,
@@ -63,6 +70,7 @@ impl Key {
             Key::Tick => "tick",
             Key::Pull => "pull",
             Key::Preempt => "preempt",
+            Key::FallAsleep => "sleep",
             Key::Task => "task",
             Key::Name => "name",
             Key::Count => "count",
@@ -90,6 +98,7 @@ impl Key {
             Key::Tick | Key::Begins => "a length of time, as \"3ms\", of 0 to 1000000s",
             Key::Pull => "true or false",
             Key::Preempt => "\"wakeup\" or \"tick\"",
+            Key::FallAsleep => "\"sleep\" or \"doze\"",
             Key::Task => "tables, as [[task]]",
             Key::Name => "a text of 1 to 64 letters, digits, - and _, and not - alone",
             Key::Count => "a number from 1 to 1024",
@@ -119,14 +128,23 @@ pub enum Wrong {
     Missing(Key),
     /// The key's value isn't what it has to be.
     Bad(Key),
-    /// This key isn't known here.
-    UnknownKey(String),
-    /// This word is no phase.
-    UnknownPhase(String),
+    /// This key isn't known here; the nearest one that is, if one is near.
+    UnknownKey {
+        word: String,
+        nearest: Option<Key>,
+    },
+    /// This word is no phase; the nearest one that is.
+    UnknownPhase {
+        word: String,
+        nearest: Option<&'static str>,
+    },
     /// A phase is neither a text nor a table of one phase.
     NoPhase,
-    /// No task has this name.
-    NoTask(String),
+    /// No task has this name; the nearest one that a task has.
+    NoTask {
+        word: String,
+        nearest: Option<String>,
+    },
     /// Another task has this name.
     SameName(String),
     /// Loops stand in one another deeper than `Phase::DEPTHS`.
@@ -159,10 +177,28 @@ impl fmt::Display for Wrong {
                 let expected = key.expected();
                 write!(f, "bad value of {name}, which is {expected}")
             }
-            Wrong::UnknownKey(word) => write!(f, "unknown key {word:?}"),
-            Wrong::UnknownPhase(word) => write!(f, "unknown phase {word:?}"),
+            Wrong::UnknownKey { word, nearest } => {
+                write!(f, "unknown key {word:?}")?;
+                match nearest {
+                    Some(key) => write_nearest(f, key.name()),
+                    None => Ok(()),
+                }
+            }
+            Wrong::UnknownPhase { word, nearest } => {
+                write!(f, "unknown phase {word:?}")?;
+                match nearest {
+                    Some(known) => write_nearest(f, known),
+                    None => Ok(()),
+                }
+            }
             Wrong::NoPhase => f.write_str("a phase is a text or a table of one phase"),
-            Wrong::NoTask(word) => write!(f, "no task has the name {word:?}"),
+            Wrong::NoTask { word, nearest } => {
+                write!(f, "no task has the name {word:?}")?;
+                match nearest {
+                    Some(name) => write_nearest(f, name.as_str()),
+                    None => Ok(()),
+                }
+            }
             Wrong::SameName(word) => write!(f, "another task has the name {word:?}"),
             Wrong::TooDeep => f.write_str("loops stand in one another more than 8 deep"),
             Wrong::NoTime => f.write_str(
@@ -171,6 +207,11 @@ impl fmt::Display for Wrong {
             Wrong::TooMany => f.write_str("more than 1024 tasks"),
         }
     }
+}
+
+/// Tells of the known word that is nearest to one that isn't known.
+fn write_nearest<W: fmt::Write>(f: &mut fmt::Formatter<W>, known: &str) -> fmt::Result {
+    write!(f, "; the nearest that is known is {known}")
 }
 
 impl fmt::Display for PhaseFault {
@@ -202,6 +243,17 @@ impl<T: Drop> From<AllocFailed<T>> for PhaseFault {
 }
 
 impl Place {
+    /// The phase at a place in the list of the loop that stands here.
+    pub(crate) fn within(self, place: usize) -> Place {
+        match self {
+            Place::Phase { task, path } => Place::Phase {
+                task,
+                path: path.within(place),
+            },
+            _ => self,
+        }
+    }
+
     /// The fault that something is wrong here.
     pub(crate) fn fault(self, wrong: Wrong) -> PhaseFault {
         PhaseFault { place: self, wrong }

@@ -2,7 +2,9 @@
 
 use crate::keys::{known_alone, list, number_or};
 use crate::lengths::{length, span};
+use crate::near_words::{nearest_name, nearest_phase};
 use crate::phase_fault::{Key, PhaseFault, Place, Wrong};
+use crate::phase_path::PhasePath;
 use crate::tasks::{nice_of, place_of};
 use eevdf_closed_loop::{Group, Phase, Span};
 use std::alloc::Global;
@@ -23,7 +25,10 @@ pub(crate) fn phases(
 ) -> Result<Vec<Phase>, PhaseFault> {
     let mut phases = Vec::new(alloc);
     for (phase, member) in members.iter().enumerate() {
-        let place = Place::Phase { task, phase };
+        let place = Place::Phase {
+            task,
+            path: PhasePath::of(phase),
+        };
         push_phase(alloc, &mut phases, member, place, named, 0)?;
     }
     if phases.is_empty() {
@@ -58,8 +63,8 @@ fn push_phase(
     }
     let rounds = number_or(table, place, Key::Loop, (1, MOST_ROUNDS), 1)?;
     let first = phases.len();
-    for inner in list(table, place, Key::Phases)? {
-        push_phase(alloc, phases, inner, place, named, depth + 1)?;
+    for (at, inner) in list(table, place, Key::Phases)?.iter().enumerate() {
+        push_phase(alloc, phases, inner, place.within(at), named, depth + 1)?;
     }
     if !takes_time(phases, first) {
         return Err(place.fault(Wrong::NoTime));
@@ -102,8 +107,9 @@ fn word_phase(alloc: Global, word: &str, place: Place) -> Result<Phase, PhaseFau
         "yield" => Ok(Phase::Yield),
         "end" => Ok(Phase::End),
         _ => {
+            let nearest = nearest_phase(alloc, word)?;
             let word = String::from_str(alloc, word)?;
-            Err(place.fault(Wrong::UnknownPhase(word)))
+            Err(place.fault(Wrong::UnknownPhase { word, nearest }))
         }
     }
 }
@@ -167,8 +173,9 @@ fn named_of(
     match place_of(named, name) {
         Some(group) => Ok(group),
         None => {
-            let name = String::from_str(alloc, name)?;
-            Err(place.fault(Wrong::NoTask(name)))
+            let nearest = nearest_name(alloc, name, named)?;
+            let word = String::from_str(alloc, name)?;
+            Err(place.fault(Wrong::NoTask { word, nearest }))
         }
     }
 }

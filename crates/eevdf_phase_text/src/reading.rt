@@ -6,7 +6,7 @@ ghost use Rattle.eevdf_phase_text.specs.Bounds.{IsInBounds};
 use crate::keys::{known_alone, length_or, list, number_or, text_or};
 use crate::phase_fault::{Key, PhaseFault, Place, Wrong};
 use crate::tasks::groups;
-use eevdf_closed_loop::{Plan, Preempt};
+use eevdf_closed_loop::{FallAsleep, Plan, Preempt};
 use eevdf_ops::CpuId;
 use std::alloc::Global;
 use toml::{Table, Value};
@@ -70,7 +70,14 @@ fn plan_of_machine(alloc: Global, machine: &Table) -> Result<Plan, PhaseFault>
         alloc,
         machine,
         place,
-        &[Key::Cpus, Key::Lasts, Key::Tick, Key::Pull, Key::Preempt],
+        &[
+            Key::Cpus,
+            Key::Lasts,
+            Key::Tick,
+            Key::Pull,
+            Key::Preempt,
+            Key::FallAsleep,
+        ],
     )?;
     let cpus = number_or(machine, place, Key::Cpus, (1, CpuId::COUNT as u64), 1)?;
     if machine.get(Key::Lasts.name()).is_none() {
@@ -84,6 +91,7 @@ fn plan_of_machine(alloc: Global, machine: &Table) -> Result<Plan, PhaseFault>
         lasts,
         pull: pull_of(machine)?,
         preempt: preempt_of(machine)?,
+        fall_asleep: fall_asleep_of(machine)?,
         seed: 0,
         groups: Vec::new(alloc),
     })
@@ -102,5 +110,13 @@ fn preempt_of(machine: &Table) -> Result<Preempt, PhaseFault> {
         "wakeup" => Ok(Preempt::Wakeup),
         "tick" => Ok(Preempt::Tick),
         _ => Err(Place::Machine.fault(Wrong::Bad(Key::Preempt))),
+    }
+}
+
+fn fall_asleep_of(machine: &Table) -> Result<FallAsleep, PhaseFault> {
+    match text_or(machine, Place::Machine, Key::FallAsleep, "sleep")? {
+        "sleep" => Ok(FallAsleep::Sleep),
+        "doze" => Ok(FallAsleep::Doze),
+        _ => Err(Place::Machine.fault(Wrong::Bad(Key::FallAsleep))),
     }
 }

@@ -6,29 +6,23 @@ use eevdf_closed_loop::{ClosedLoop, Stop};
 /// How a play has ended.
 #[derive(Clone, Copy, PartialEq, Eq, Debug)]
 pub(crate) enum Ending {
-    /// The machine was driven for as long as it lasts.
-    Whole,
     /// There are more deeds than a script has.
     TooManyDeeds,
     /// The script would be longer than a workload is.
     TooLong,
-    /// The machine couldn't be driven on.
+    /// The machine is driven no further.
     Stopped(Stop),
 }
 
 impl Ending {
     /// How the play of a machine has ended that has no further deed.
     pub fn of(machine: &ClosedLoop) -> Ending {
-        match machine.stop {
-            None | Some(Stop::Ended) => Ending::Whole,
-            Some(stop) => Ending::Stopped(stop),
-        }
+        Ending::Stopped(machine.stop.unwrap_or(Stop::Ended))
     }
 
     /// Says how a play has ended, where not as it should, and gives the status.
     pub fn tell(self, errors: &impl Print) -> u8 {
         match self {
-            Ending::Whole => return 0,
             Ending::TooManyDeeds => {
                 let most = Workload::MOST_DEEDS;
                 let _ = println!(errors;
@@ -41,16 +35,16 @@ impl Ending {
                     "fault: script longer than {most} bytes; these are the first deeds"
                 );
             }
-            Ending::Stopped(stop) => tell_stop(errors, stop),
+            Ending::Stopped(stop) => return tell_stop(errors, stop),
         }
         1
     }
 }
 
-/// Says why a machine couldn't be driven on.
-fn tell_stop(errors: &impl Print, stop: Stop) {
+/// Says why a machine is driven no further, where its time isn't over, and gives the status.
+fn tell_stop(errors: &impl Print, stop: Stop) -> u8 {
     match stop {
-        Stop::Ended => tell(errors, b"fault: the time is over\n"),
+        Stop::Ended => return 0,
         Stop::Range => tell(errors, b"fault: a virtual time leaves its range there\n"),
         Stop::Endless(task) => {
             let _ = println!(errors;
@@ -66,4 +60,5 @@ fn tell_stop(errors: &impl Print, stop: Stop) {
         }
         Stop::OtherSetup => tell(errors, b"fault: the setup isn't that of the workload\n"),
     }
+    1
 }

@@ -4,13 +4,16 @@
 #![tactic(auto)]
 
 mod ending;
+mod fair_shares;
 mod figure_text;
 mod figures;
 mod help;
 mod names;
 mod playing;
 mod printing;
+mod refusing;
 mod script;
+mod waits;
 mod words;
 
 use crate::help::{HELP, USAGE};
@@ -71,7 +74,7 @@ fn run<W: Read + Drop>(
 ) -> u8 {
     let mut reader = Watched::new(Reasoned::new(workload));
     match read_input(alloc, &mut reader) {
-        Ok(bytes) => play_text(rt, errors, alloc, &bytes, output),
+        Ok(bytes) => play_text(rt, errors, alloc, file, &bytes, output),
         Err(fault) => {
             let status = not_read(errors, alloc, &fault);
             if fault == BenchFault::Read {

@@ -4,12 +4,13 @@ use crate::ending::Ending;
 use crate::figures::AllFigures;
 use crate::names::Names;
 use crate::printing::{print_answers, print_stats};
+use crate::refusing::refuse;
 use crate::script::print_script;
 use crate::words::Output;
 use eevdf_bench::{NO_MEMORY, NO_WRITE, Piped, Workload, print};
 use eevdf_closed_loop::{ClosedLoop, OpenFault, Plan, setup_of};
 use eevdf_ops::Setup;
-use eevdf_phase_text::{MOST_BYTES, PhaseFault, Wrong, read_phases};
+use eevdf_phase_text::{MOST_BYTES, read_phases};
 use std::alloc::Global;
 use std::io;
 use std::io::{BufWriter, ErrorKind, Write};
@@ -17,24 +18,19 @@ use std::io::{BufWriter, ErrorKind, Write};
 // what is read is no longer than a workload of phases
 const _: () = prove!(MOST_BYTES == Workload::MOST_BYTES);
 
-/// Plays the workload of phases that these bytes are, and gives the exit status.
+/// Plays the workload of phases that these bytes are, which may be those of a file, and gives the exit status.
 pub(crate) fn play_text<R: Print>(
     rt: &R,
     errors: &impl Print,
     alloc: Global,
+    file: Option<&str>,
     bytes: &[u8],
     output: Output,
 ) -> u8 {
     match read_phases(alloc, bytes) {
         Ok(plan) => play(rt, errors, alloc, plan, output),
-        Err(fault) => refuse(errors, &fault),
+        Err(fault) => refuse(errors, alloc, file, bytes, &fault),
     }
-}
-
-/// Says why a workload of phases is refused, and gives the status.
-fn refuse(errors: &impl Print, fault: &PhaseFault) -> u8 {
-    let _ = println!(errors; "fault: {fault}");
-    if fault.wrong == Wrong::Memory { 3 } else { 1 }
 }
 
 /// Plays a plan and prints what comes of it, and gives the status.

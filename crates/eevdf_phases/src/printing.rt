@@ -73,6 +73,7 @@ fn task_of(deed: Deed, answer: Answer) -> Option<TaskId> {
     }
     match deed {
         Deed::Sleep { task, .. }
+        | Deed::Doze { task, .. }
         | Deed::Wake { task, .. }
         | Deed::Renice { task, .. }
         | Deed::End { task, .. } => Some(task),

@@ -3,8 +3,8 @@
 use crate::ending::Ending;
 use crate::names::Names;
 use crate::printing::{concerned, moment_of};
-use eevdf_bench::Workload;
-use eevdf_closed_loop::ClosedLoop;
+use eevdf_bench::{Version, Workload};
+use eevdf_closed_loop::{ClosedLoop, FallAsleep};
 use eevdf_ops::{Line, Setup};
 use eevdf_queue::TaskId;
 use std::alloc::Global;
@@ -21,7 +21,7 @@ pub(crate) fn print_script<W: Write>(
     machine: &mut ClosedLoop,
 ) -> io::Result<Ending> {
     let mut front = Vec::new(alloc);
-    print_front(&mut front, setup)?;
+    print_front(&mut front, setup, version_with(machine.plan().fall_asleep))?;
     let mut back = Vec::new(alloc);
     print_tasks(&mut back, setup, names)?;
     let around = front.len().saturating_add(back.len());
@@ -32,9 +32,17 @@ pub(crate) fn print_script<W: Write>(
     Ok(ending)
 }
 
+/// The first version of workloads that knows the deeds of a machine whose tasks fall asleep so.
+fn version_with(fall_asleep: FallAsleep) -> Version {
+    match fall_asleep {
+        FallAsleep::Sleep => Version::Three,
+        FallAsleep::Doze => Version::Four,
+    }
+}
+
 /// Prints what stands before the deeds.
-fn print_front<W: Write>(out: &mut W, setup: &Setup) -> io::Result<()> {
-    out.write_all(b"version = 3\nprogram = [")?;
+fn print_front<W: Write>(out: &mut W, setup: &Setup, version: Version) -> io::Result<()> {
+    write!(out, "version = {version}\nprogram = [")?;
     for cpu in 0..setup.cpus() {
         let text: &[u8] = if cpu == 0 { b"[]" } else { b", []" };
         out.write_all(text)?;
