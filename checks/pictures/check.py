@@ -30,6 +30,7 @@ from plain.steps import play
 from plain.workbench import replay
 from plain.workload import read_workload
 from program import SOURCES, Pictures, is_well, stored_workloads
+from race import check_race
 from refusals import check_refusals
 from runner import TOP
 from stretch_table import check_stretch_table
@@ -45,7 +46,8 @@ COMPARED = 2400
 HOSTILE_NAMES = ("a</script><script>alert(1)</script>.toml", "<!--.toml", "\"'&lt;&<b onclick=alert(1)>.toml", "two\nlines\\u003c.toml")
 
 # The pictures of docs/, and the workload and words of each.
-PICTURES = {"pull.svg": ("examples/pull.toml", ()), "interleaving.svg": ("examples/interleaving.toml", ("--replay",))}
+PICTURES = {"pull.svg": ("examples/pull.toml", ()), "interleaving.svg": ("examples/interleaving.toml", ("--replay",)),
+            "doze.svg": ("examples/doze.toml", ()), "race.svg": ("examples/interleaving.toml", ("--replay", "--race", "--to", "60"))}
 
 
 def check_all(checks, data, script, words=()):
@@ -85,6 +87,7 @@ def check_stored_workloads(checks):
             checks.attempt(path.name, check_script, checks, data)
         elif command == "replay":
             checks.attempt(path.name, check_all, checks, data, script_of_replay(data), SOURCES[command])
+            checks.attempt(f"the race of {path.name}", check_races, checks, data)
         else:
             checks.attempt(path.name, check_run, checks, data)
     for path, data, command in stored_workloads("checks/cases/programs/*.toml"):
@@ -115,14 +118,19 @@ def check_drawn(checks, first):
 
 def check_window(checks, data):
     """The middle third of the time, on every second CPU."""
-    timeline = Timeline(read_workload(data).setup, read_workload(data).script)
+    setup, script = read_workload(data).setup, read_workload(data).script
+    timeline = Timeline(setup, script)
     begin, end = timeline.end() // 3, max(2 * timeline.end() // 3, timeline.end() // 3 + 1)
     cpus = list(range(0, timeline.setup.cpus(), 2))
     words = ("--from", str(begin), "--to", str(end), "--cpu", ",".join(map(str, cpus)))
     picture, table = checks.written(words, data), checks.written((*words, "--table"), data)
     check_picture(picture, timeline, (begin, end), cpus)
     check_stretch_table(table, timeline, (begin, end), cpus)
-    figures = checks.written(("--stats", *words[4:]), data)
+    figures = checks.written(("--stats", *words), data)
+    check_table(figures, json.loads(checks.written(("--stats", "--json", *words), data)))
+    check_json(checks.written(("--stats", "--json", *words[:4]), data), Timeline(setup, script, (begin, end)))
+    whole = ("--from", "0", "--to", str(max(1, timeline.end())))
+    expect("the figures of all of the time", checks.written(("--stats", *whole), data), checks.written(("--stats",), data))
     check_page(checks.written((*words, "--html"), data), timeline, picture, table, figures, (begin, end), cpus)
     check_trace(checks.written((*words, "--perfetto"), data), timeline, (begin, end), cpus)
     check_task_picture(checks.written((*words[:4], "--rows=tasks"), data), timeline, (begin, end))
@@ -134,6 +142,18 @@ def check_order(checks, data):
     except Fault:
         return
     check_all(checks, data, script, SOURCES["replay"])
+    check_races(checks, data)
+
+
+def check_races(checks, data):
+    """The race of an order: from its beginning on, its last places, and a few in its middle."""
+    workload = read_workload(data)
+    count = len(workload.order)
+    for first, end in ((0, None), (max(0, count - 50), None), (count // 3, count // 3 + 20), (count, count + 5)):
+        words = ("--from", str(first)) if end is None else ("--from", str(first), "--to", str(end))
+        check_race(checks.written(("--replay", "--race", *words), data), workload, first, end)
+    if checks.written(("--replay", "--race"), data) != checks.written(("--replay", "--race", "--from", "0"), data):
+        raise Wrong("another race from its beginning on")
 
 
 def check_dense(checks):
@@ -201,6 +221,10 @@ def check_edges(checks):
             raise Wrong("a sleep that isn't in the time")
         check_picture(picture, timeline, (begin, end))
         check_trace(checks.written((*words, "--perfetto"), data), timeline, (begin, end))
+        rows = json.loads(checks.written((*words, "--stats", "--json"), data))
+        said = [tuple(row[key] for key in ("ran_ns", "waited_ns", "share_permille", "weight_share_permille")) for row in rows["tasks"]]
+        expect("what is counted of the tasks", said, [(0, end - begin, 0, 500), (end - begin, 0, 1000, 500)])
+        expect("what the CPU charged", rows["cpus"][0]["charged_ns"], end - begin)
         loads = [event for event in checks.events(words, data) if event["name"] == "load of CPU 0"]
         expect("the load at first", (loads[0]["ts"], loads[0]["args"]), (begin / 1000, {"load": 2048}))
 
@@ -236,18 +260,30 @@ def check_alone(checks):
 
 
 def check_crowd(checks):
-    """Of more chosen tasks the first 16 have curves, and the picture says so."""
+    """Of more chosen tasks 16 have curves, those that run first, and the picture says so."""
     names = ",".join(map(str, range(5, 30)))
     text = checks.written(("--task", names), made.crowd())
     expect("the curves", re.findall(rb"lag of task (\d+)", text), [b"%d" % task for task in range(5, 21)])
-    if b"the first 16 of 25 tasks" not in text:
+    if b"the first 16 of 25 tasks by time run" not in text:
         raise Wrong("no word of the tasks without a curve")
+    late = checks.written(("--task", names), made.late_runner())
+    expect("the curves of those that ran", re.findall(rb"lag of task (\d+)", late), [b"%d" % task for task in (*range(5, 20), 29)])
+
+
+def check_sleeper(checks):
+    """A task that sleeps all the time isn't shown, nor one of a CPU that isn't chosen."""
+    data = made.sleeper()
+    for words, wanted, count in (((), [b"0", b"2"], b"2 of 3"), (("--cpu", "1"), [b"2"], b"1 of 3")):
+        text = checks.written(words, data)
+        expect("the curves", re.findall(rb"lag of task (\d+)", text), wanted)
+        expect("how many tasks are shown", re.findall(rb"tasks (\d+ of \d+),", text), [count])
 
 
 def check_made(checks):
     for name, check in (("choices", check_choices), ("yields of tasks", check_yields), ("an early arrow", check_late_pull), ("a late wake", check_late_wake),
                         ("why stretches end", check_ends), ("the edges of a time", check_edges),
-                        ("a task alone of each level", check_alone), ("30 tasks", check_crowd), ("3000 stretches", check_dense)):
+                        ("a task alone of each level", check_alone), ("30 tasks", check_crowd), ("a task that sleeps", check_sleeper),
+                        ("3000 stretches", check_dense)):
         checks.attempt(name, check, checks)
     checks.attempt("an empty machine", check_script, checks, made.empty())
     for name in HOSTILE_NAMES:

@@ -5,9 +5,9 @@ from collections import defaultdict
 
 from model import before, kept
 from plain.report import text_of
+from shown import Shown
 from svg import Wrong, expect
 from turns import is_in, rests_of, turns_of
-from view import MOST_CURVES
 
 # The processes: tracks and loads of CPUs, counters of lags, and tracks of tasks.
 CPUS, LAGS, TASKS = 1, 2, 3
@@ -160,7 +160,8 @@ def check_counters(events, timeline, window, cpus):
         wanted = earlier + [(time, load) for time, load in loads[1:] if begin <= time <= end] if cpu in cpus else []
         expect(f"the loads of CPU {cpu}", counted(events, f"load of CPU {cpu}", "load"), wanted)
     lags = {event["name"] for event in events if event["name"].startswith("lag ")}
-    wanted = {f"lag of task {task}": lags_of(points, begin, end) for task, points in enumerate(timeline.points[:MOST_CURVES])}
+    curves = Shown(timeline, window, cpus).curves
+    wanted = {f"lag of task {task}": lags_of(timeline.points[task], begin, end) for task in curves}
     wanted = {name: points for name, points in wanted.items() if points}
     expect("the counters of lags", lags, set(wanted))
     for name, points in wanted.items():

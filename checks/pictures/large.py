@@ -106,22 +106,26 @@ def check_fullest(checks):
 
 def check_terminal(checks, data):
     """A long run says on a terminal how far it is, in one line that is written over and ends, before it tells which deeds were refused; a
-    short one says nothing."""
-    printed, said = on_terminal(checks, data)
+    short one says nothing. A page, which has a picture and figures, says it once."""
+    for words in ((), ("--html",)):
+        check_progress(*on_terminal(checks, data, words))
+    expect("what a short run says", on_terminal(checks, made.empty())[1], b"")
+
+
+def check_progress(printed, said):
     expect("the status", printed.status, 0)
     refused = rb"(?:script at \d+: [^\r\n]+\r\n){10}\d+ more deeds are refused\r\n"
     lines = re.fullmatch(rb"(?:\reevdf_timeline: \d+ of 640000 deeds)+\r\n" + refused, said)
     done = [int(number) for number in re.findall(rb"(\d+) of", said)]
     if not lines or len(done) < 5 or done != sorted(set(done)) or done[-1] > 640000:
         raise Wrong(f"on the terminal stands {said!r}")
-    expect("what a short run says", on_terminal(checks, made.empty())[1], b"")
 
 
-def on_terminal(checks, data):
+def on_terminal(checks, data, words=()):
     """A run whose standard error is a terminal, with what that shows."""
     screen, terminal = pty.openpty()
     try:
-        printed = checks.run((), data, stderr=terminal)
+        printed = checks.run(words, data, stderr=terminal)
     finally:
         os.close(terminal)
     with os.fdopen(screen, "rb", buffering=0) as shown:

@@ -8,20 +8,20 @@ def task_text(home, nice, length, start, asleep):
 
 
 def workload(cpus, tasks, script):
-    """A workload of version 3 without programs."""
+    """A workload of version 4 without programs."""
     deeds = "".join(f'"{deed}",\n' for deed in script)
-    return f"version = 3\nprogram = [{'[], ' * cpus}]\nscript = [\n{deeds}]\n{''.join(tasks)}".encode()
+    return f"version = 4\nprogram = [{'[], ' * cpus}]\nscript = [\n{deeds}]\n{''.join(tasks)}".encode()
 
 
 def drawn_deed(dice, cpus, homes):
     """Picks and ticks come more often; deeds that name a task name any, so some of them are refused."""
     cpu, task = dice.randrange(cpus), dice.randrange(len(homes))
     kind = dice.choice(("pick", "pick", "pick", "tick", "tick", "tick", "tick", "sleep", "wake", "wake", "wake", "pull", "renice", "yield",
-                        "begin", "end", "set", "rebase"))
+                        "begin", "end", "set", "rebase", "doze", "doze"))
     given = f"{task} {dice.randrange(-20, 20)} {dice.randrange(100000, 9000000)}"
     if kind == "tick":
         return f"{cpu} tick {dice.choice((1, 1000, 250000, dice.randrange(1, 5000000)))}"
-    if kind in ("sleep", "end"):
+    if kind in ("sleep", "doze", "end"):
         return f"{cpu} {kind} {task}"
     if kind == "begin":
         return f"{homes[task]} begin {given}"
@@ -160,3 +160,15 @@ def late_pull():
 def crowd():
     """30 tasks on one CPU."""
     return workload(1, [task_text(0, 0, 3000000, 0, False) for _ in range(30)], ["0 pick", "0 tick 1000000"])
+
+
+def late_runner():
+    """30 tasks on one CPU, of which the last one alone runs, and the others wake then."""
+    tasks = [task_text(0, 0, 3000000, 0, True) for _ in range(29)] + [task_text(0, 0, 3000000, 0, False)]
+    return workload(1, tasks, ["0 pick", "0 tick 1000000", *(f"0 wake {task} from 0" for task in range(29))])
+
+
+def sleeper():
+    """Task 0 runs on CPU 0 and task 2 on CPU 1; task 1 sleeps."""
+    tasks = [task_text(0, 0, 3000000, 0, False), task_text(0, 0, 3000000, 0, True), task_text(1, 0, 3000000, 0, False)]
+    return workload(2, tasks, ["0 pick", "0 tick 1000000", "1 pick", "1 tick 1000000"])

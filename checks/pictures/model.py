@@ -5,6 +5,7 @@ import sys
 from collections import defaultdict
 from dataclasses import dataclass, field
 from fractions import Fraction
+from math import inf
 from pathlib import Path
 
 sys.path.insert(0, str(Path(__file__).resolve().parent.parent / "drawn"))
@@ -12,7 +13,7 @@ sys.path.insert(0, str(Path(__file__).resolve().parent.parent / "drawn"))
 from plain.machine import queues_at_start, whole
 from plain.numbers import weight_of
 from plain.report import text_of
-from turns import rests_of
+from turns import is_in, rests_of
 
 
 @dataclass(frozen=True)
@@ -46,6 +47,8 @@ class TaskFigures:
     least_fair: int = 0
     greatest_fair: int = 0
     lags: list = field(default_factory=list)
+    # the lag with which it comes into the time that is counted, where it is runnable then
+    first_lag: int | None = None
     picks: int = 0
     preempted: int = 0
     # (nanoseconds, when it woke) of each wake that a pick followed
@@ -73,6 +76,11 @@ class CpuFigures:
 FINDS = {"wake": "woken", "begin": "begun", "set": "set"}
 
 
+def shared(window, begin, end):
+    """How much of a time is in a window."""
+    return max(0, min(end, window[1]) - max(begin, window[0]))
+
+
 def lag_in_ns(queue, task):
     """Rounded towards 0."""
     service = queue.lag_of(task) * weight_of(queue.runnable[task].nice)
@@ -80,10 +88,11 @@ def lag_in_ns(queue, task):
 
 
 class Timeline:
-    """The deeds of a script with their times, and what is counted of them."""
+    """The deeds of a script with their times, and what is counted of them, in a part of the time or in all of it."""
 
-    def __init__(self, setup, script):
+    def __init__(self, setup, script, window=(0, inf)):
         self.setup = setup
+        self.window = window
         self.queues = queues_at_start(setup)
         self.clocks = [0] * setup.cpus()
         self.slept = {}
@@ -106,19 +115,20 @@ class Timeline:
         self.looked = {}
         for cpu in range(setup.cpus()):
             self.note(cpu, 0, *self.state(cpu))
-        self.note_lags(range(setup.cpus()))
+        for cpu in range(setup.cpus()):
+            self.count_state(cpu, 0)
         for cpu, deed in script:
             self.do(cpu, deed)
-        for cpu, queue in enumerate(self.queues):
-            self.cpus[cpu].load = queue.load()
         for task in self.tasks:
             task.end_stay()
+            if task.first_lag is not None:
+                task.lags.append(task.first_lag)
 
     def end(self):
         return max((moment.end for moment in self.moments), default=0)
 
     def state(self, cpu):
-        """The load of a CPU, and the lag of each task there: one that sleeps keeps the lag with which it left."""
+        """The load of a CPU, and the lag of each task there: one that sleeps keeps the lag with which it left, and one that dozes no debt."""
         queue = self.queues[cpu]
         lags = [(task, queue.lag_of(task)) for task in queue.runnable]
         return queue.load(), lags + [(task, sleeper.lag) for task, sleeper in queue.asleep.items()]
@@ -131,10 +141,18 @@ class Timeline:
         for task, lag in lags:
             self.points[task].append((time, lag))
 
-    def note_lags(self, cpus):
-        for cpu in cpus:
-            for task in self.queues[cpu].runnable:
-                self.tasks[task].lags.append(lag_in_ns(self.queues[cpu], task))
+    def count_state(self, cpu, time):
+        """Counts the load of a CPU and the lags there at a time of its clock."""
+        begin, end = self.window
+        if time > end:
+            return
+        self.cpus[cpu].load = self.queues[cpu].load()
+        for task in self.queues[cpu].runnable:
+            lag = lag_in_ns(self.queues[cpu], task)
+            if time < begin:
+                self.tasks[task].first_lag = lag
+            else:
+                self.tasks[task].lags.append(lag)
 
     def begin_of(self, cpu, deed):
         """A pull isn't before what its source has done, nor a wake before what its sender has; and what finds a task asleep isn't before the
@@ -168,12 +186,14 @@ class Timeline:
         self.note(cpu, moment.end, *self.state(cpu))
         if deed[0] == "pull":
             self.note(deed[1], other, *self.state(deed[1]))
-        self.note_lags({cpu, deed[1]} if deed[0] == "pull" else {cpu})
+        self.count_state(cpu, moment.end)
+        if deed[0] == "pull":
+            self.count_state(deed[1], other)
 
     def note_concerned(self, moment, running):
         word, *rest = moment.answer.split()
         task = int(rest[0]) if word in ("charged", "picked", "pulled") else running if word == "yielded" else None
-        if moment.deed[0] in ("sleep", "wake", "renice", "begin", "end", "set"):
+        if moment.deed[0] in ("sleep", "doze", "wake", "renice", "begin", "end", "set"):
             task = moment.deed[1]
         self.concerned.append(task)
         self.lags_after.append(int(rest[0]) if word == "slept" else dict(self.state(moment.cpu)[1]).get(task))
@@ -193,7 +213,8 @@ class Timeline:
 
     def count(self, moment, running):
         words, cpu = moment.answer.split(), self.cpus[moment.cpu]
-        ns = moment.end - moment.begin
+        ns = shared(self.window, moment.begin, moment.end)
+        is_counted = is_in(self.window, moment.begin, moment.end)
         if words[0] == "pulled":
             self.tasks[int(words[1])].end_stay()
         elif words[0] in ("slept", "ended", "reniced", "set"):
@@ -201,17 +222,19 @@ class Timeline:
         if words[0] == "charged":
             self.count_charge(moment.cpu, int(words[1]), ns)
         elif moment.deed[0] == "tick" and words[0] == "idle":
-            cpu.idle_ticks += 1
+            cpu.idle_ticks += is_counted
             cpu.idle += ns
         elif words[0] == "picked":
-            self.count_pick(int(words[1]), running, moment.begin)
+            self.count_pick(int(words[1]), running, moment.begin, is_counted)
         elif words[0] == "pulled":
-            cpu.pulls_in += 1
-            self.cpus[moment.deed[1]].pulls_out += 1
-            self.tasks[int(words[1])].migrations += 1
+            cpu.pulls_in += is_counted
+            self.cpus[moment.deed[1]].pulls_out += is_counted
+            self.tasks[int(words[1])].migrations += is_counted
         elif words[0] in ("slept", "ended"):
             self.slept[moment.deed[1]] = moment.begin
-            self.tasks[moment.deed[1]].migrations += self.setup.tasks[moment.deed[1]].home != moment.cpu
+            self.tasks[moment.deed[1]].migrations += is_counted and self.setup.tasks[moment.deed[1]].home != moment.cpu
+            if moment.end < self.window[0]:
+                self.tasks[moment.deed[1]].first_lag = None
         elif words[0] == "woken":
             self.woken[moment.deed[1]] = moment.begin
 
@@ -223,12 +246,15 @@ class Timeline:
             self.tasks[task].shared += ns
             self.tasks[task].fair += Fraction(ns * entry.weight(), load)
 
-    def count_pick(self, task, running, time):
+    def count_pick(self, task, running, time, is_counted):
+        """A wait is that of its pick, and is told whole."""
+        woken = self.woken.pop(task, None)
+        if not is_counted:
+            return
         self.tasks[task].picks += 1
         if running is not None and running != task:
             self.tasks[running].preempted += 1
-        if task in self.woken:
-            woken = self.woken.pop(task)
+        if woken is not None:
             self.tasks[task].waits.append((time - woken, woken))
 
 
@@ -324,7 +350,7 @@ def figures_of(timeline):
         "picks": task.picks,
         "preempted": task.preempted,
         **wakes_of(task.waits),
-        "waited_ns": sum(end - begin for other, sleeps, begin, end in rests if other == number and not sleeps),
+        "waited_ns": sum(shared(timeline.window, begin, end) for other, sleeps, begin, end in rests if other == number and not sleeps),
         "migrations": task.migrations,
     } for number, task in enumerate(timeline.tasks)]
     cpus = [{

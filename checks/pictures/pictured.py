@@ -16,6 +16,7 @@ def check_picture(text, timeline, window=None, cpus=None):
     expect("the lanes", list(lanes), view.cpus)
     axes = check_axes(picture)
     expect("the number of axes", len(axes), 2 if view.curves else 1)
+    check_head(picture, timeline, len(view.cpus), len(view.shown.tasks), view.shown.deeds)
     check_around("the lanes", axes[0], min(lanes.values()), max(lanes.values()))
     joined = check_boxes(picture, view, lanes)
     check_marks(picture, view, lanes, axes[0][1])
@@ -23,9 +24,26 @@ def check_picture(text, timeline, window=None, cpus=None):
     return joined
 
 
+def part(shown, total):
+    return f"{total}" if shown == total else f"{shown} of {total}"
+
+
+def check_head(picture, timeline, cpus, tasks, deeds):
+    """The title and the first line count the CPUs, the tasks and the deeds that are shown, and of how many."""
+    setup = timeline.setup
+    of_cpus, of_tasks = part(cpus, setup.cpus()), part(tasks, len(setup.tasks))
+    names = "CPU" if setup.cpus() == 1 else "CPUs", "task" if len(setup.tasks) == 1 else "tasks"
+    expect("the title", title_of(picture.root), f"A schedule of {of_cpus} {names[0]} and {of_tasks} {names[1]}")
+    expect("the first line", [text.text for text in picture.named("text", "h")],
+           [f"CPUs {of_cpus}, tasks {of_tasks}, deeds {part(deeds, len(timeline.moments))}: what ran when, by the time that ticks took"])
+
+
 def check_lags(picture, view, axes):
     """The panels below the first axis, with an axis of their own."""
     check_panels(picture, view, axes[0][1])
+    shown = len(view.shown.tasks)
+    said = picture.count(r"Lags are those of the first 16 of (\d+) tasks by time run")
+    expect("of how many tasks the lags are", said, shown if shown > 16 else 0)
     expect("whether a note says that lags are left out", "Curves keep 4 lags of each 1/220" in picture.notes, view.is_thinned)
     if view.curves:
         tops = panels_of(picture)
@@ -38,6 +56,7 @@ def check_task_picture(text, timeline, window=None):
     picture = Picture(text, view.begin, view.end, {})
     axes = check_axes(picture)
     check_rows(picture, timeline, axes[0][1])
+    check_head(picture, timeline, len(view.cpus), len(timeline.setup.tasks), view.shown.deeds)
     check_lags(picture, view, axes)
 
 

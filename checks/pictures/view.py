@@ -4,9 +4,9 @@ from dataclasses import dataclass
 from itertools import groupby
 
 from model import Moment, before, kept, shown, signs_of
+from shown import Shown
 from turns import is_in, rests_of
 
-MOST_CURVES = 16
 # Of more stretches than these those are joined that begin in one part of a lane.
 MOST_BOXES = 1200
 
@@ -30,8 +30,9 @@ class View:
                                 key=lambda stretch: (stretch[0], stretch[2]))
         self.moments = [(moment, sign) for moment, sign in zip(timeline.moments, signs_of(timeline.moments))
                         if moment.cpu in self.cpus and begin <= moment.begin <= end]
-        looks = [list(shown(points, begin, end)) for points in timeline.points[:MOST_CURVES]]
-        self.curves = {task: list(kept(points, begin, end)) for task, points in enumerate(timeline.points[:MOST_CURVES])}
+        self.shown = Shown(timeline, (begin, end), self.cpus)
+        looks = [list(shown(timeline.points[task], begin, end)) for task in self.shown.curves]
+        self.curves = {task: list(kept(timeline.points[task], begin, end)) for task in self.shown.curves}
         # the lag with which the time begins, where that is one from before it
         self.before = {task: before(timeline.points[task], begin, end) for task in self.curves}
         self.sleeps = [(task, *times) for task, sleeps, *times in rests_of(timeline)

@@ -2,21 +2,24 @@
 
 ghost use Rattle.std.specs.Prelude.{◌≡◌, false};
 
-use crate::figures::{Figures, counts_of, figures_of, json_of, table_of};
+use crate::again::{Observer, observe};
+use crate::figures::{Counts, Figures, figures_of, json_of, table_of};
 use crate::history::history_of;
-use crate::lags::lags_of;
+use crate::lags::{Lags, MOST_CURVES};
 use crate::moments::Moment;
 use crate::page::page_of;
 use crate::picture::picture_of;
 use crate::progress::Progress;
+use crate::race::race_of;
 use crate::scale::Scale;
 use crate::scene::Scene;
+use crate::shown::{Shown, shown_of};
 use crate::stretch_table::stretch_table_of;
-use crate::stretches::turns_of;
+use crate::stretches::{Turns, turns_of};
 use crate::trace::trace_of;
 use crate::words::{Output, Words};
 use eevdf_bench::{BenchFault, Watched, WorkloadText, read_input, read_workload, write_text};
-use eevdf_ops::Setup;
+use eevdf_ops::{Setup, Solo};
 use std::alloc::{AllocError, Global};
 use std::io::{Read, Write};
 use std::sync::Wait;
@@ -86,10 +89,16 @@ fn text_of<T: Threads + Wait + Sync>(
     let schedule = Schedule {
         setup: workload.setup(),
         moments: &moments,
+        scale: scale_of(&moments, words),
         words,
         progress,
     };
-    let text = schedule.output(alloc)?;
+    let text = match workload.order() {
+        Some(order) if words.output == Output::Race => {
+            race_of(alloc, workload.setup(), order, &moments, words)?
+        }
+        _ => schedule.output(alloc)?,
+    };
     Ok(text)
 }
 
@@ -98,6 +107,7 @@ fn text_of<T: Threads + Wait + Sync>(
 struct Schedule<'a> {
     setup: &'a Setup,
     moments: &'a [Moment],
+    scale: Scale,
     words: &'a Words,
     progress: &'a Progress,
 }
@@ -108,46 +118,113 @@ impl Schedule<'_> {
             Output::Table => self.listed(alloc),
             Output::Figures => table_of(alloc, &self.counted(alloc)?),
             Output::Json => json_of(alloc, &self.counted(alloc)?),
-            Output::Picture | Output::Page | Output::Trace => self.drawn(alloc),
+            // a race without an order was refused before
+            Output::Picture | Output::Trace | Output::Race => self.drawn(alloc),
+            Output::Page => self.page(alloc),
         }
     }
 
     fn listed(&self, alloc: Global) -> Result<Vec<u8>, AllocError> {
-        let scale = scale_of(self.moments, self.words);
         let turns = turns_of(alloc, self.setup, self.moments)?;
-        stretch_table_of(alloc, &turns.stretches, &scale, self.words)
+        stretch_table_of(alloc, &turns.stretches, &self.scale, self.words)
     }
 
     fn counted(&self, alloc: Global) -> Result<Figures, AllocError> {
         let turns = turns_of(alloc, self.setup, self.moments)?;
-        let mut counts = counts_of(alloc, self.setup, self.moments, self.progress)?;
-        counts.add_waits(&turns.rests);
-        figures_of(alloc, &mut counts, self.words)
+        let mut counts = Counts::new(alloc, self.setup, self.scale)?;
+        self.observe(alloc, &mut counts)?;
+        self.figures(alloc, &mut counts, &turns)
     }
 
+    fn figures(
+        &self,
+        alloc: Global,
+        counts: &mut Counts,
+        turns: &Turns,
+    ) -> Result<Figures, AllocError> {
+        counts.add_waits(&turns.rests);
+        figures_of(alloc, counts, self.words)
+    }
+
+    /// A picture or a trace.
     fn drawn(&self, alloc: Global) -> Result<Vec<u8>, AllocError> {
-        let Schedule {
-            setup,
-            moments,
-            words,
-            progress,
-        } = *self;
-        let scale = scale_of(moments, words);
-        let turns = turns_of(alloc, setup, moments)?;
-        let lags = lags_of(alloc, setup, moments, &scale, words, progress)?;
-        let scene = Scene {
-            setup,
-            moments,
-            turns: &turns,
-            lags: &lags,
-            scale,
-            words,
-        };
-        match words.output {
-            Output::Trace => trace_of(alloc, &scene),
-            Output::Page => page_of(alloc, &scene, &table_of(alloc, &self.counted(alloc)?)?),
-            _ => picture_of(alloc, &scene),
+        let turns = turns_of(alloc, self.setup, self.moments)?;
+        let mut shown = self.shown(alloc)?;
+        let mut lags = self.lags(alloc, &mut shown)?;
+        self.observe(alloc, &mut lags)?;
+        let scene = self.scene(&turns, &lags, &shown);
+        if self.words.output == Output::Trace {
+            trace_of(alloc, &scene)
+        } else {
+            picture_of(alloc, &scene)
         }
+    }
+
+    /// A page, of which picture and figures are made as the deeds are done once.
+    fn page(&self, alloc: Global) -> Result<Vec<u8>, AllocError> {
+        let turns = turns_of(alloc, self.setup, self.moments)?;
+        let mut shown = self.shown(alloc)?;
+        let lags = self.lags(alloc, &mut shown)?;
+        let counts = Counts::new(alloc, self.setup, self.scale)?;
+        let mut both = LagsAndCounts { lags, counts };
+        self.observe(alloc, &mut both)?;
+        let figures = table_of(alloc, &self.figures(alloc, &mut both.counts, &turns)?)?;
+        page_of(alloc, &self.scene(&turns, &both.lags, &shown), &figures)
+    }
+
+    fn observe<O: Observer>(&self, alloc: Global, observer: &mut O) -> Result<(), AllocError> {
+        observe(alloc, self.setup, self.moments, observer, self.progress)
+    }
+
+    fn shown(&self, alloc: Global) -> Result<Shown, AllocError> {
+        shown_of(alloc, self.setup, self.moments, self.scale, self.words)
+    }
+
+    /// The lags of those tasks that have curves, before the deeds are done.
+    fn lags(&self, alloc: Global, shown: &mut Shown) -> Result<Lags, AllocError> {
+        let tasks = shown.longest(alloc, MOST_CURVES)?;
+        Lags::new(alloc, self.setup, self.words.output, &tasks, self.scale)
+    }
+
+    fn scene<'a>(&'a self, turns: &'a Turns, lags: &'a Lags, shown: &'a Shown) -> Scene<'a> {
+        Scene {
+            setup: self.setup,
+            moments: self.moments,
+            turns,
+            lags,
+            shown,
+            scale: self.scale,
+            words: self.words,
+        }
+    }
+}
+
+/// What a page is made of.
+#[derive(Drop)]
+struct LagsAndCounts {
+    lags: Lags,
+    counts: Counts,
+}
+
+impl Observer for LagsAndCounts {
+    fn begin(&mut self, solo: &Solo) -> Result<(), AllocError> {
+        self.lags.begin(solo)?;
+        self.counts.begin(solo)
+    }
+
+    fn before_deed(&mut self, solo: &Solo, moment: &Moment) -> Result<(), AllocError> {
+        self.lags.before_deed(solo, moment)?;
+        self.counts.before_deed(solo, moment)
+    }
+
+    fn after_deed(&mut self, solo: &Solo, moment: &Moment, place: usize) -> Result<(), AllocError> {
+        self.lags.after_deed(solo, moment, place)?;
+        self.counts.after_deed(solo, moment, place)
+    }
+
+    fn end(&mut self) {
+        self.lags.end();
+        self.counts.end();
     }
 }
 

@@ -2,12 +2,13 @@
 
 mod counted;
 mod counts;
+mod deeds;
 mod rows;
 mod service;
 mod table;
 mod virtual_times;
 mod waits;
 
-pub(crate) use counts::counts_of;
+pub(crate) use counts::Counts;
 pub(crate) use rows::{Figures, figures_of};
 pub(crate) use table::{json_of, table_of};

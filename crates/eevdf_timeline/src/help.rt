@@ -2,17 +2,18 @@
 
 /// What is printed where the words aren't known.
 pub(crate) const USAGE: &[u8] =
-    b"usage: eevdf_timeline [--replay|--run] [--html|--perfetto|--table|--stats [--json]] [--rows cpus|tasks] \
+    b"usage: eevdf_timeline [--replay [--race]|--run] [--html|--perfetto|--table|--stats [--json]] [--rows cpus|tasks] \
 [--from NS] [--to NS] [--cpu N,..] [--task N,..] [FILE]\n";
 
 /// What `--help` prints.
 pub(crate) const HELP: &[u8] = b"\
 eevdf_timeline draws what the scheduler answers to a workload: a picture (SVG), a page (HTML), a trace or a table.
 
-usage: eevdf_timeline [--replay|--run] [--html|--perfetto|--table|--stats [--json]] [--rows cpus|tasks] \
+usage: eevdf_timeline [--replay [--race]|--run] [--html|--perfetto|--table|--stats [--json]] [--rows cpus|tasks] \
 [--from NS] [--to NS] [--cpu N,..] [--task N,..] [FILE]
 
   --replay     draws the workload's order, in place of its script
+  --race       with --replay, draws the order's steps, and below them the one thread's history that they come to
   --run        draws the programs, each run by a thread of its own
   --html       writes a page: the picture, which tells of what the pointer is at, with the table and the figures
   --perfetto   writes a trace, in the format that Perfetto and chrome://tracing read
@@ -20,8 +21,9 @@ usage: eevdf_timeline [--replay|--run] [--html|--perfetto|--table|--stats [--jso
   --stats      writes a table of figures
   --json       with --stats, writes the figures as JSON
   --rows ROWS  with tasks, a picture has a row for each task; with cpus, a lane for each CPU, as without it
-  --from NS    leaves out what is before this time, in nanoseconds; not with --stats
-  --to NS      leaves out what is after this time; not with --stats. What is partly in this time is there, and told whole
+  --from NS    leaves out what is before this time, in nanoseconds; with --race, what is before this place of the order
+  --to NS      leaves out what is after this time, or isn't before this place. What is partly in a time is there, and told
+               whole; --stats counts the part
   --cpu N,..   these CPUs alone
   --task N,..  these tasks alone; others are light grey in a picture
   FILE         the workload; without it, or where it is -, standard input is read

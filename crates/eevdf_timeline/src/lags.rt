@@ -1,11 +1,11 @@
 //! How the lags of tasks and the loads of CPUs change, as the deeds are done once more.
 
+use crate::again::Observer;
 use crate::lists::set_at;
 use crate::marks::task_of;
-use crate::moments::{Moment, do_again};
-use crate::progress::Progress;
+use crate::moments::Moment;
 use crate::scale::{Scale, part};
-use crate::words::{Output, Words};
+use crate::words::Output;
 use eevdf_ops::{Answer, CpuId, Deed, Setup, Solo};
 use eevdf_queue::TaskId;
 use std::alloc::{AllocError, Global};
@@ -13,7 +13,7 @@ use std::alloc::{AllocError, Global};
 /// A curve has at most four points in each of so many columns.
 pub const COLUMNS: u64 = 220;
 
-/// So many curves are drawn at most: those of the first tasks that are chosen.
+/// So many curves are drawn at most: those of the tasks that run the longest, of those that are shown.
 pub const MOST_CURVES: usize = 16;
 
 /// A lag, in virtual time, at a moment, in nanoseconds.
@@ -48,7 +48,7 @@ pub struct Load {
 pub struct After {
     /// The task that the deed concerns.
     pub task: Option<TaskId>,
-    /// Its lag, in virtual time, where it is on the deed's CPU or fell asleep by the deed.
+    /// Its lag, in virtual time, where it is on the deed's CPU or fell asleep by the deed: that with which it left then, also by a doze.
     pub lag: Option<i64>,
 }
 
@@ -62,51 +62,40 @@ pub struct Lags {
     /// Of each deed the lag of whoever ran on its CPU before it, where a page is written.
     pub before: Vec<Option<i64>>,
     output: Output,
+    scale: Scale,
+    // who ran on the CPU of a deed before it
+    running: Option<TaskId>,
     last_loads: Vec<u64>,
     // when each CPU was looked at last
     looked: Vec<Option<u64>>,
 }
 
-/// Does the deeds of a history once more, and looks at the lags of the first `MOST_CURVES` of the chosen tasks, and at the loads of
-/// all CPUs.
-pub(crate) fn lags_of(
-    alloc: Global,
-    setup: &Setup,
-    moments: &[Moment],
-    scale: &Scale,
-    words: &Words,
-    progress: &Progress,
-) -> Result<Lags, AllocError> {
-    let mut solo = Solo::open(alloc, setup)?;
-    let mut lags = Lags::open(alloc, setup, words)?;
-    for cpu in 0..setup.cpus() {
-        lags.look(&solo, CpuId::numbered(cpu), 0, scale)?;
-    }
-    let followed = lags.follow_all(&mut solo, moments, scale, progress);
-    progress.end(moments.len());
-    followed?;
-    Ok(lags)
-}
-
 impl Lags {
-    fn open(alloc: Global, setup: &Setup, words: &Words) -> Result<Lags, AllocError> {
+    /// Of these tasks, before a machine is looked at.
+    pub(crate) fn new(
+        alloc: Global,
+        setup: &Setup,
+        output: Output,
+        tasks: &[TaskId],
+        scale: Scale,
+    ) -> Result<Lags, AllocError> {
         let mut curves = Vec::new(alloc);
-        for (task, _spec) in setup.each_task() {
-            if words.tasks.has(task.index()) && curves.len() < MOST_CURVES {
-                curves.push(Curve {
-                    task,
-                    before: None,
-                    points: Vec::new(alloc),
-                    thinned: false,
-                })?;
-            }
+        for task in tasks {
+            curves.push(Curve {
+                task: *task,
+                before: None,
+                points: Vec::new(alloc),
+                thinned: false,
+            })?;
         }
         Ok(Lags {
             curves,
             loads: Vec::new(alloc),
             after: Vec::new(alloc),
             before: Vec::new(alloc),
-            output: words.output,
+            output,
+            scale,
+            running: None,
             last_loads: vec![in alloc; 0; setup.cpus()]?,
             looked: vec![in alloc; None; setup.cpus()]?,
         })
@@ -121,44 +110,6 @@ impl Lags {
         thinned
     }
 
-    fn follow_all(
-        &mut self,
-        solo: &mut Solo,
-        moments: &[Moment],
-        scale: &Scale,
-        progress: &Progress,
-    ) -> Result<(), AllocError> {
-        for (done, moment) in moments.iter().enumerate() {
-            self.follow(solo, moment, scale)?;
-            progress.tell(done, moments.len());
-        }
-        Ok(())
-    }
-
-    /// Does a deed, and looks at its CPU after it, and before it where time has gone by since the last look.
-    fn follow(
-        &mut self,
-        solo: &mut Solo,
-        moment: &Moment,
-        scale: &Scale,
-    ) -> Result<(), AllocError> {
-        let cpu = moment.line.deed.cpu();
-        if self.looked.get(cpu.index()).copied().flatten() != Some(moment.begin) {
-            self.look(solo, cpu, moment.begin, scale)?;
-        }
-        self.note_before(solo, cpu)?;
-        let running = running_on(solo, cpu);
-        do_again(solo, &moment.line);
-        if self.output == Output::Page || self.output == Output::Trace {
-            self.after.push(after_of(solo, moment, running))?;
-        }
-        self.look(solo, cpu, moment.end, scale)?;
-        if let Deed::Pull { source, .. } = moment.line.deed {
-            self.look(solo, source, moment.other, scale)?;
-        }
-        Ok(())
-    }
-
     /// Notes the lag of whoever runs on the CPU of a deed before it, for a page.
     fn note_before(&mut self, solo: &Solo, cpu: CpuId) -> Result<(), AllocError> {
         if self.output == Output::Page {
@@ -167,13 +118,8 @@ impl Lags {
         Ok(())
     }
 
-    fn look(
-        &mut self,
-        solo: &Solo,
-        cpu: CpuId,
-        time: u64,
-        scale: &Scale,
-    ) -> Result<(), AllocError> {
+    fn look(&mut self, solo: &Solo, cpu: CpuId, time: u64) -> Result<(), AllocError> {
+        let scale = self.scale;
         if !solo.has_cpu(cpu) {
             return Ok(());
         }
@@ -183,7 +129,7 @@ impl Lags {
         if time <= scale.to {
             for curve in self.curves.iter_mut() {
                 if let Some(lag) = queue.lag_of(curve.task) {
-                    curve.add(Point { time, lag }, scale)?;
+                    curve.add(Point { time, lag }, &scale)?;
                 }
             }
         }
@@ -199,6 +145,45 @@ impl Lags {
         }
         Ok(())
     }
+}
+
+/// Looks at a deed's CPU after it, and before it where time has gone by since the last look; after a pull at its source too.
+impl Observer for Lags {
+    fn begin(&mut self, solo: &Solo) -> Result<(), AllocError> {
+        for cpu in 0..self.looked.len().min(CpuId::COUNT) {
+            self.look(solo, CpuId::numbered(cpu), 0)?;
+        }
+        Ok(())
+    }
+
+    fn before_deed(&mut self, solo: &Solo, moment: &Moment) -> Result<(), AllocError> {
+        let cpu = moment.line.deed.cpu();
+        if self.looked.get(cpu.index()).copied().flatten() != Some(moment.begin) {
+            self.look(solo, cpu, moment.begin)?;
+        }
+        self.note_before(solo, cpu)?;
+        self.running = running_on(solo, cpu);
+        Ok(())
+    }
+
+    fn after_deed(
+        &mut self,
+        solo: &Solo,
+        moment: &Moment,
+        _place: usize,
+    ) -> Result<(), AllocError> {
+        if self.output == Output::Page || self.output == Output::Trace {
+            let after = after_of(solo, moment, self.running);
+            self.after.push(after)?;
+        }
+        self.look(solo, moment.line.deed.cpu(), moment.end)?;
+        if let Deed::Pull { source, .. } = moment.line.deed {
+            self.look(solo, source, moment.other)?;
+        }
+        Ok(())
+    }
+
+    fn end(&mut self) {}
 }
 
 impl Curve {

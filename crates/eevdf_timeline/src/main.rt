@@ -2,10 +2,11 @@
 //! (SVG), a page with it (HTML), a trace (Trace Event JSON), a table of what ran when, or a table of figures.
 //!
 //! `history` comes to the lines that the proved calls answer, and `moments` gives each its time; all that is written is made of these.
-//! `picture`, `page` and `trace` draw a `scene` of them, `figures` counts them. `lags` and `figures::counts` do the same deeds once more on
-//! a machine of their own, and look at its queues between them.
+//! `picture`, `page` and `trace` draw a `scene` of them, `figures` counts them, and `race` draws the steps of an order above them. `again`
+//! does the same deeds once more on a machine of its own, and `lags` and `figures::counts` look at its queues between them.
 #![tactic(auto)]
 
+mod again;
 mod drawing;
 mod figures;
 mod help;
@@ -17,8 +18,10 @@ mod moments;
 mod page;
 mod picture;
 mod progress;
+mod race;
 mod scale;
 mod scene;
+mod shown;
 mod signs;
 mod stretch_table;
 mod stretches;

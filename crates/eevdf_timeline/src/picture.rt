@@ -17,6 +17,7 @@ use crate::picture::task_rows::TaskRows;
 use crate::scene::Scene;
 use crate::signs::SIGNS;
 use std::alloc::{AllocError, Global};
+use std::fmt;
 
 /// The top of the first lane, in units of the picture.
 const TOP: u64 = 136;
@@ -115,9 +116,9 @@ fn push_around(text: &mut String, scene: &Scene<'_>, bottom: u64) -> Result<(), 
 }
 
 fn push_head(text: &mut String, scene: &Scene<'_>, height: u64) -> Result<(), AllocError> {
-    let (cpus, tasks, deeds) = (scene.setup.cpus(), scene.setup.tasks(), scene.moments.len());
-    let of_cpus = if cpus == 1 { "CPU" } else { "CPUs" };
-    let of_tasks = if tasks == 1 { "task" } else { "tasks" };
+    let (cpus, tasks, deeds) = (cpus_shown(scene), tasks_shown(scene), deeds_shown(scene));
+    let of_cpus = if cpus.all == 1 { "CPU" } else { "CPUs" };
+    let of_tasks = if tasks.all == 1 { "task" } else { "tasks" };
     write!(
         text,
         "<svg xmlns=\"http://www.w3.org/2000/svg\" viewBox=\"0 0 {PAGE} {height}\" width=\"{PAGE}\" height=\"{height}\" "
@@ -143,6 +144,52 @@ fn push_head(text: &mut String, scene: &Scene<'_>, height: u64) -> Result<(), Al
         text.push_str(TASK_KEYS)
     } else {
         push_legend(text)
+    }
+}
+
+/// How many of all are shown.
+#[derive(Clone, Copy)]
+struct Part {
+    shown: usize,
+    all: usize,
+}
+
+/// As it stands in a title: all, or so many of all.
+impl fmt::Display for Part {
+    fn fmt<W: fmt::Write>(&self, f: &mut fmt::Formatter<W>) -> fmt::Result {
+        if self.shown == self.all {
+            write!(f, "{}", self.all)
+        } else {
+            write!(f, "{} of {}", self.shown, self.all)
+        }
+    }
+}
+
+fn cpus_shown(scene: &Scene<'_>) -> Part {
+    let all = scene.setup.cpus();
+    Part {
+        shown: scene.words.cpus.count(all),
+        all,
+    }
+}
+
+/// The tasks that the time shows, or those that have rows.
+fn tasks_shown(scene: &Scene<'_>) -> Part {
+    let all = scene.setup.tasks();
+    Part {
+        shown: if scene.words.by_task {
+            scene.words.tasks.count(all)
+        } else {
+            scene.shown.tasks()
+        },
+        all,
+    }
+}
+
+fn deeds_shown(scene: &Scene<'_>) -> Part {
+    Part {
+        shown: scene.shown.deeds,
+        all: scene.moments.len(),
     }
 }
 
@@ -244,9 +291,9 @@ fn push_lane_note(text: &mut String, lanes: &Lanes) -> Result<(), AllocError> {
 }
 
 fn push_lag_note(text: &mut String, scene: &Scene<'_>, height: u64) -> Result<(), AllocError> {
-    let chosen = scene.words.tasks.count(scene.setup.tasks());
+    let shown = scene.shown.tasks();
     let thinned = scene.lags.are_thinned();
-    if !thinned && chosen <= MOST_CURVES {
+    if !thinned && shown <= MOST_CURVES {
         return Ok(());
     }
     write!(text, "<text class=\"s\" x=\"10\" y=\"{height}\">")?;
@@ -256,10 +303,10 @@ fn push_lag_note(text: &mut String, scene: &Scene<'_>, height: u64) -> Result<()
             "Curves keep 4 lags of each 1/{COLUMNS} of the width. "
         )?;
     }
-    if chosen > MOST_CURVES {
+    if shown > MOST_CURVES {
         write!(
             text,
-            "Lags are those of the first {MOST_CURVES} of {chosen} tasks; --task chooses others. "
+            "Lags are those of the first {MOST_CURVES} of {shown} tasks by time run; --task chooses others. "
         )?;
     }
     writeln!(text, "</text>")

@@ -58,6 +58,13 @@ impl Scale {
         }
     }
 
+    /// How much of the time from one moment to another is drawn, in nanoseconds.
+    pub(crate) fn shared(&self, begin: u64, end: u64) -> u64
+        ensures { result ≡ spec.shared self.now begin end }
+    {
+        end.min(self.to).saturating_sub(begin.max(self.from))
+    }
+
     /// The place of a time, at an edge where it isn't drawn.
     pub(crate) fn place(&self, time: u64) -> Tenths {
         let since = time.min(self.to).saturating_sub(self.from);

@@ -3,6 +3,7 @@
 use crate::lags::Lags;
 use crate::moments::Moment;
 use crate::scale::Scale;
+use crate::shown::Shown;
 use crate::stretches::Turns;
 use crate::words::Words;
 use eevdf_ops::Setup;
@@ -14,6 +15,7 @@ pub struct Scene<'a> {
     pub moments: &'a [Moment],
     pub turns: &'a Turns,
     pub lags: &'a Lags,
+    pub shown: &'a Shown,
     pub scale: Scale,
     pub words: &'a Words,
 }

@@ -35,6 +35,7 @@ impl Sign {
 
     const WAKE: Sign = Sign(2);
 
+    /// A task falls asleep, by a sleep or a doze.
     const SLEEP: Sign = Sign(3);
 
     pub(crate) const PULL: Sign = Sign(4);

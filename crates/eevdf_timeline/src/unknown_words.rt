@@ -6,7 +6,7 @@ use eevdf_ops::CpuId;
 use eevdf_queue::TaskId;
 use std::alloc::{AllocError, Global};
 
-const FLAGS: [&str; 7] = [
+const FLAGS: [&str; 8] = [
     "--replay",
     "--run",
     "--html",
@@ -14,6 +14,7 @@ const FLAGS: [&str; 7] = [
     "--table",
     "--stats",
     "--json",
+    "--race",
 ];
 
 const WITH_TIME: [&str; 2] = ["--from", "--to"];
@@ -121,6 +122,18 @@ fn together(alloc: Global, words: &[String]) -> Result<String, AllocError> {
     let has = |flag: &str| words.iter().any(|word| is_flag(word.as_str(), flag));
     let text = if has("--replay") && has("--run") {
         "--replay and --run exclude each other\n"
+    } else if has("--race") && !has("--replay") {
+        "--race stands with --replay\n"
+    } else if has("--race")
+        && (has("--html")
+            || has("--perfetto")
+            || has("--table")
+            || has("--stats")
+            || has("--json"))
+    {
+        "--race excludes --html, --perfetto, --table, --stats and --json\n"
+    } else if has("--race") && (has("--rows") || has("--cpu") || has("--task")) {
+        "a race is of all CPUs and tasks: --race excludes --rows, --cpu and --task\n"
     } else if has("--html")
         && (has("--perfetto") || has("--table") || has("--stats") || has("--json"))
     {
@@ -133,8 +146,6 @@ fn together(alloc: Global, words: &[String]) -> Result<String, AllocError> {
         "rows are of a picture: --rows excludes --perfetto, --table and --stats\n"
     } else if has("--json") && !has("--stats") {
         "--json stands with --stats\n"
-    } else if has("--stats") && (has("--from") || has("--to")) {
-        "figures are of the whole schedule: --stats excludes --from and --to\n"
     } else if has("--to") {
         "the time of --to is after that of --from, which is 0 where it isn't given; each stands once\n"
     } else {

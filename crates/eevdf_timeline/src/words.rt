@@ -16,6 +16,8 @@ pub enum Output {
     Page,
     /// A trace, as Trace Event JSON.
     Trace,
+    /// A picture of the steps of an order's callers, above the history that comes out.
+    Race,
     /// A line for each stretch, as text in columns.
     Table,
     /// Figures as text in columns.
@@ -81,9 +83,9 @@ pub struct Words {
     pub output: Output,
     /// Whether a picture has a row for each task, and not a lane for each CPU.
     pub by_task: bool,
-    /// The first nanosecond that is drawn.
+    /// The first nanosecond that is drawn, or of a race the first place.
     pub from: u64,
-    /// The nanosecond after the last one that is drawn, where one is named.
+    /// The nanosecond, or the place, after the last one that is drawn, where one is named.
     pub to: Option<u64>,
     pub cpus: Choice,
     pub tasks: Choice,
@@ -118,9 +120,11 @@ fn asked_by(
     let source = source_of(matches.get_flag("replay"), matches.get_flag("run"))?;
     let output = output_of(matches)?;
     let by_task = is_by_task(output, matches.get_str("rows"))?;
+    let has_choice = matches.get_str("cpu").is_some() || matches.get_str("task").is_some();
+    check_race(output, source, has_choice)?;
     let from = number_of(matches.get_str("from"))?;
     let to = number_of(matches.get_str("to"))?;
-    check_window(output, from, to)?;
+    check_window(from, to)?;
     let cpus = chosen(alloc, matches.get_str("cpu"), CpuId::COUNT)?;
     let tasks = chosen(alloc, matches.get_str("task"), TaskId::COUNT)?;
     Ok(Words {
@@ -154,13 +158,15 @@ fn output_of(matches: &ArgMatches<'_>) -> Result<Output, WordFault> {
         matches.get_flag("table"),
         matches.get_flag("stats"),
         matches.get_flag("json"),
+        matches.get_flag("race"),
     ) {
-        (false, false, false, false, false) => Ok(Output::Picture),
-        (true, false, false, false, false) => Ok(Output::Page),
-        (false, true, false, false, false) => Ok(Output::Trace),
-        (false, false, true, false, false) => Ok(Output::Table),
-        (false, false, false, true, false) => Ok(Output::Figures),
-        (false, false, false, true, true) => Ok(Output::Json),
+        (false, false, false, false, false, false) => Ok(Output::Picture),
+        (true, false, false, false, false, false) => Ok(Output::Page),
+        (false, true, false, false, false, false) => Ok(Output::Trace),
+        (false, false, true, false, false, false) => Ok(Output::Table),
+        (false, false, false, true, false, false) => Ok(Output::Figures),
+        (false, false, false, true, true, false) => Ok(Output::Json),
+        (false, false, false, false, false, true) => Ok(Output::Race),
         _ => Err(WordFault::Words),
     }
 }
@@ -180,12 +186,19 @@ fn is_by_task(output: Output, value: Option<&str>) -> Result<bool, WordFault> {
     }
 }
 
-/// Figures are of the whole schedule, and a window has some length.
-fn check_window(output: Output, from: Option<u64>, to: Option<u64>) -> Result<(), WordFault> {
-    let is_of_all = from.is_none() && to.is_none();
+/// A race is of an order, and of all CPUs and tasks.
+fn check_race(output: Output, source: Kind, has_choice: bool) -> Result<(), WordFault> {
+    if output == Output::Race && (source != Kind::Replay || has_choice) {
+        Err(WordFault::Words)
+    } else {
+        Ok(())
+    }
+}
+
+/// A window has some length.
+fn check_window(from: Option<u64>, to: Option<u64>) -> Result<(), WordFault> {
     let is_empty = to.is_some_and(|end| end <= from.unwrap_or(0));
-    let counts = output == Output::Figures || output == Output::Json;
-    if is_empty || counts && !is_of_all {
+    if is_empty {
         Err(WordFault::Words)
     } else {
         Ok(())
@@ -239,7 +252,8 @@ fn program<'a>(alloc: Global) -> Result<Command<'a>, AllocError> {
         .arg(flag(alloc, "perfetto"))?
         .arg(flag(alloc, "table"))?
         .arg(flag(alloc, "stats"))?
-        .arg(flag(alloc, "json"))?;
+        .arg(flag(alloc, "json"))?
+        .arg(flag(alloc, "race"))?;
     let rows = output.arg(value(alloc, "rows"))?;
     let window = rows.arg(value(alloc, "from"))?.arg(value(alloc, "to"))?;
     window.arg(value(alloc, "cpu"))?.arg(value(alloc, "task"))

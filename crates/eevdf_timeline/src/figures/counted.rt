@@ -88,9 +88,14 @@ impl TaskCounts {
         }
     }
 
-    pub(crate) fn pick(&mut self, time: u64) -> Result<(), AllocError> {
+    /// A pick of the task, which ends a wait also where it isn't counted.
+    pub(crate) fn pick(&mut self, time: u64, is_counted: bool) -> Result<(), AllocError> {
+        let wait = self.waits.end(time);
+        if !is_counted {
+            return Ok(());
+        }
         self.picks = self.picks.saturating_add(1);
-        self.waits.pick(time)
+        self.waits.add(wait)
     }
 }
 

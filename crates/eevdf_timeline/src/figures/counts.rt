@@ -1,11 +1,12 @@
 //! What is counted of a history, as its deeds are done once more.
 
+use crate::again::Observer;
 use crate::figures::counted::{CpuCounts, Since, TaskCounts};
 use crate::figures::virtual_times::lag_in_ns;
-use crate::moments::{Moment, charged_task, do_again, is_rebase, moved_task, named_task};
-use crate::progress::Progress;
+use crate::moments::{Moment, charged_task, is_rebase, moved_task};
+use crate::scale::Scale;
 use crate::stretches::Rest;
-use eevdf_ops::{Answer, CpuId, Deed, Setup, Solo};
+use eevdf_ops::{CpuId, Deed, Setup, Solo};
 use eevdf_queue::{Entry, TaskId};
 use eevdf_weight::weight;
 use std::alloc::{AllocError, Global};
@@ -15,70 +16,28 @@ use std::alloc::{AllocError, Global};
 pub struct Counts {
     pub tasks: Vec<TaskCounts>,
     pub cpus: Vec<CpuCounts>,
-}
-
-/// Counts a history.
-pub(crate) fn counts_of(
-    alloc: Global,
-    setup: &Setup,
-    moments: &[Moment],
-    progress: &Progress,
-) -> Result<Counts, AllocError> {
-    let mut solo = Solo::open(alloc, setup)?;
-    let mut counts = Counts::open(alloc, setup, &solo)?;
-    let followed = counts.follow_all(&mut solo, moments, progress);
-    progress.end(moments.len());
-    followed?;
-    for (task, _spec) in setup.each_task() {
-        counts.leave(task);
-    }
-    for cpu in 0..setup.cpus() {
-        counts.note_load(&solo, CpuId::numbered(cpu));
-    }
-    Ok(counts)
+    /// The time in which it is counted.
+    pub scale: Scale,
+    // whether the deed that is done is before that time
+    is_before: bool,
 }
 
 impl Counts {
-    fn open(alloc: Global, setup: &Setup, solo: &Solo) -> Result<Counts, AllocError> {
+    /// Of nothing yet, of the time that is counted.
+    pub(crate) fn new(alloc: Global, setup: &Setup, scale: Scale) -> Result<Counts, AllocError> {
         let mut counts = Counts {
             tasks: Vec::new(alloc),
             cpus: Vec::new(alloc),
+            scale,
+            is_before: false,
         };
-        for cpu in 0..setup.cpus() {
+        for _cpu in 0..setup.cpus() {
             counts.cpus.push(CpuCounts::new(alloc))?;
-            counts.note_time(solo, CpuId::numbered(cpu), 0)?;
         }
-        for (task, spec) in setup.each_task() {
+        for (_task, spec) in setup.each_task() {
             counts.tasks.push(TaskCounts::new(alloc, spec.home))?;
-            counts.join(solo, task, spec.home, 0);
         }
         Ok(counts)
-    }
-
-    fn follow_all(
-        &mut self,
-        solo: &mut Solo,
-        moments: &[Moment],
-        progress: &Progress,
-    ) -> Result<(), AllocError> {
-        for (done, moment) in moments.iter().enumerate() {
-            self.follow(solo, moment, done.saturating_add(1))?;
-            progress.tell(done, moments.len());
-        }
-        Ok(())
-    }
-
-    /// Does a deed, whose place in the history is counted from 1 on.
-    fn follow(&mut self, solo: &mut Solo, moment: &Moment, place: usize) -> Result<(), AllocError> {
-        self.end_states(moment);
-        do_again(solo, &moment.line);
-        self.note_times(solo, moment, place)?;
-        self.begin_states(solo, moment, place);
-        self.count_tick(solo, moment);
-        self.count_turn(moment)?;
-        self.count_pull(moment);
-        self.count_migration(moment);
-        Ok(())
     }
 
     /// Adds the times in which tasks waited.
@@ -86,7 +45,7 @@ impl Counts {
         for rest in rests {
             if !rest.sleeps {
                 if let Some(counts) = self.tasks.get_mut(rest.task.index()) {
-                    let length = rest.end.saturating_sub(rest.begin);
+                    let length = self.scale.shared(rest.begin, rest.end);
                     counts.waited = counts.waited.saturating_add(length);
                 }
             }
@@ -122,39 +81,47 @@ impl Counts {
 
     /// Notes the virtual times of the CPUs that a deed touches.
     fn note_times(&mut self, solo: &Solo, moment: &Moment, place: usize) -> Result<(), AllocError> {
-        self.note_time(solo, moment.line.deed.cpu(), place)?;
+        self.note_time(solo, moment.line.deed.cpu(), place, moment.end)?;
         match moment.line.deed {
-            Deed::Pull { source, .. } => self.note_time(solo, source, place),
+            Deed::Pull { source, .. } => self.note_time(solo, source, place, moment.other),
             _ => Ok(()),
         }
     }
 
-    /// Notes the virtual time of a CPU after the deed at a place.
-    fn note_time(&mut self, solo: &Solo, cpu: CpuId, place: usize) -> Result<(), AllocError> {
-        if !solo.has_cpu(cpu) {
+    /// Notes the load and the virtual time of a CPU after the deed at a place, at a time of its clock. Of what is before the time that is
+    /// counted the last is kept, and of what is after it nothing.
+    fn note_time(
+        &mut self,
+        solo: &Solo,
+        cpu: CpuId,
+        place: usize,
+        time: u64,
+    ) -> Result<(), AllocError> {
+        if !solo.has_cpu(cpu) || time > self.scale.to {
             return Ok(());
         }
-        let time = solo.queue(cpu).floor_time();
-        match self.cpus.get_mut(cpu.index()) {
-            None => Ok(()),
-            Some(counts) => counts.times.note(place, time),
+        let queue = solo.queue(cpu);
+        let (load, virtual_time) = (queue.load(), queue.floor_time());
+        let Some(counts) = self.cpus.get_mut(cpu.index()) else {
+            return Ok(());
+        };
+        counts.load = load;
+        if time < self.scale.from {
+            counts.times.forget();
         }
-    }
-
-    fn note_load(&mut self, solo: &Solo, cpu: CpuId) {
-        if solo.has_cpu(cpu) {
-            if let Some(counts) = self.cpus.get_mut(cpu.index()) {
-                counts.load = solo.queue(cpu).load();
-            }
-        }
+        counts.times.note(place, virtual_time)
     }
 
     fn since(&self, task: TaskId) -> Option<Since> {
         self.tasks.get(task.index())?.since
     }
 
-    /// Takes the lags that a task has had since its entry is as it is into its greatest and least one.
+    /// Takes the lags that a task has had since its entry is as it is into its greatest and least one, unless all of them are before the
+    /// time that is counted.
     fn note_lag(&mut self, task: TaskId) {
+        if self.is_before {
+            return;
+        }
         let Some(since) = self.since(task) else {
             return;
         };
@@ -211,6 +178,15 @@ impl Counts {
         }
     }
 
+    /// Begins it at the opening, where the task is runnable at its home.
+    fn begin_task(&mut self, solo: &Solo, task: TaskId) {
+        let Some(counts) = self.tasks.get(task.index()) else {
+            return;
+        };
+        let home = counts.home;
+        self.join(solo, task, home, 0);
+    }
+
     /// Begins it, where the task is runnable on the CPU.
     fn join(&mut self, solo: &Solo, task: TaskId, cpu: CpuId, place: usize) {
         let Some(counts) = self.cpus.get(cpu.index()) else {
@@ -263,124 +239,39 @@ impl Counts {
             counts.since = Some(since);
         }
     }
+}
 
-    fn count_tick(&mut self, solo: &Solo, moment: &Moment) {
-        let ns = moment.end.saturating_sub(moment.begin);
-        let cpu = moment.line.deed.cpu();
-        match moment.line.answer {
-            Answer::Charged { task, .. } => self.count_charge(solo, cpu, task, ns),
-            Answer::Idle if matches!(moment.line.deed, Deed::Tick { .. }) => self.count_idle(
-                cpu, ns,
-            ),
-            _ => {}
+/// Counts each deed, as far as it is in the time that is counted.
+impl Observer for Counts {
+    fn begin(&mut self, solo: &Solo) -> Result<(), AllocError> {
+        for cpu in 0..self.cpus.len().min(CpuId::COUNT) {
+            self.note_time(solo, CpuId::numbered(cpu), 0, 0)?;
         }
-    }
-
-    fn count_charge(&mut self, solo: &Solo, cpu: CpuId, task: TaskId, ns: u64) {
-        if !solo.has_cpu(cpu) {
-            return;
-        }
-        let load = solo.queue(cpu).load();
-        if let Some(counts) = self.cpus.get_mut(cpu.index()) {
-            counts.charged = counts.charged.saturating_add(ns);
-            counts.service = counts.service.after(ns, load);
-        }
-        if let Some(counts) = self.tasks.get_mut(task.index()) {
-            counts.ran = counts.ran.saturating_add(ns);
-        }
-    }
-
-    fn count_idle(&mut self, cpu: CpuId, ns: u64) {
-        if let Some(counts) = self.cpus.get_mut(cpu.index()) {
-            counts.idle_ticks = counts.idle_ticks.saturating_add(1);
-            counts.idle = counts.idle.saturating_add(ns);
-        }
-    }
-
-    /// Counts picks, and what they end: a turn of another task, and the time since a wake.
-    fn count_turn(&mut self, moment: &Moment) -> Result<(), AllocError> {
-        let cpu = moment.line.deed.cpu();
-        match moment.line.answer {
-            Answer::Picked(task) => {
-                if let Some(other) = self.set_running(cpu, Some(task)) {
-                    self.count_preempted(other, task);
-                }
-                self.count_pick(task, moment.begin)?;
+        for place in 0..self.tasks.len() {
+            if let Some(task) = TaskId::new(place as u64) {
+                self.begin_task(solo, task);
             }
-            Answer::Slept(_) => {
-                let _ = self.set_running(cpu, None);
-            }
-            Answer::Ended if self.running(cpu) == named_task(moment.line.deed) => {
-                let _ = self.set_running(cpu, None);
-            }
-            Answer::Woken => self.note_wake(moment),
-            _ => {}
         }
         Ok(())
     }
 
-    fn note_wake(&mut self, moment: &Moment) {
-        if let Some(task) = named_task(moment.line.deed) {
-            if let Some(counts) = self.tasks.get_mut(task.index()) {
-                counts.waits.wake(moment.begin);
-            }
-        }
+    fn before_deed(&mut self, _solo: &Solo, moment: &Moment) -> Result<(), AllocError> {
+        self.is_before = moment.end < self.scale.from;
+        self.end_states(moment);
+        Ok(())
     }
 
-    fn running(&self, cpu: CpuId) -> Option<TaskId> {
-        self.cpus.get(cpu.index())?.running
+    fn after_deed(&mut self, solo: &Solo, moment: &Moment, place: usize) -> Result<(), AllocError> {
+        self.note_times(solo, moment, place)?;
+        self.begin_states(solo, moment, place);
+        self.count_deed(solo, moment)
     }
 
-    /// Who runs on a CPU from now on; gives who ran before.
-    fn set_running(&mut self, cpu: CpuId, running: Option<TaskId>) -> Option<TaskId> {
-        match self.cpus.get_mut(cpu.index()) {
-            None => None,
-            Some(counts) => {
-                let before = counts.running;
-                counts.running = running;
-                before
-            }
-        }
-    }
-
-    fn count_preempted(&mut self, task: TaskId, by: TaskId) {
-        if task != by {
-            if let Some(counts) = self.tasks.get_mut(task.index()) {
-                counts.preempted = counts.preempted.saturating_add(1);
-            }
-        }
-    }
-
-    fn count_pick(&mut self, task: TaskId, time: u64) -> Result<(), AllocError> {
-        match self.tasks.get_mut(task.index()) {
-            None => Ok(()),
-            Some(counts) => counts.pick(time),
-        }
-    }
-
-    fn count_migration(&mut self, moment: &Moment) {
-        let (left, is_pulled) = match moment.line.answer {
-            Answer::Pulled(task) => (Some(task), true),
-            Answer::Slept(_) | Answer::Ended => (named_task(moment.line.deed), false),
-            _ => (None, false),
-        };
-        if let Some(task) = left {
-            if let Some(counts) = self.tasks.get_mut(task.index()) {
-                counts.leave(moment.line.deed.cpu(), is_pulled);
-            }
-        }
-    }
-
-    fn count_pull(&mut self, moment: &Moment) {
-        if !matches!(moment.line.answer, Answer::Pulled(_)) {
-            return;
-        }
-        if let Deed::Pull { cpu, source } = moment.line.deed {
-            if let Some(counts) = self.cpus.get_mut(cpu.index()) {
-                counts.pulls_in = counts.pulls_in.saturating_add(1);
-            }
-            if let Some(counts) = self.cpus.get_mut(source.index()) {
-                counts.pulls_out = counts.pulls_out.saturating_add(1);
+    fn end(&mut self) {
+        self.is_before = false;
+        for place in 0..self.tasks.len() {
+            if let Some(task) = TaskId::new(place as u64) {
+                self.leave(task);
             }
         }
     }

@@ -35,6 +35,12 @@ impl VirtualTimes {
         push_falling(&mut self.least, Noted { place, time })
     }
 
+    /// Forgets what was noted.
+    pub(crate) fn forget(&mut self) {
+        self.greatest.clear();
+        self.least.clear();
+    }
+
     /// The greatest since a place.
     pub(crate) fn greatest_since(&self, place: usize) -> Option<i64> {
         first_since(&self.greatest, place)

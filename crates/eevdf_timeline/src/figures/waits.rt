@@ -2,6 +2,14 @@
 
 use std::alloc::{AllocError, Global};
 
+/// A wait that has ended, in nanoseconds.
+#[derive(Clone, Copy)]
+pub struct Wait {
+    /// When the task woke.
+    woken: u64,
+    length: u64,
+}
+
 /// The waits of a task, each from a wake to the next pick of it.
 #[derive(Drop)]
 pub struct Waits {
@@ -28,16 +36,25 @@ impl Waits {
         self.woken = Some(time);
     }
 
-    pub(crate) fn pick(&mut self, time: u64) -> Result<(), AllocError> {
-        if let Some(woken) = self.woken {
-            self.woken = None;
-            let length = time.saturating_sub(woken);
-            if self.greatest_from.is_none() || length > self.greatest {
-                self.greatest = length;
-                self.greatest_from = Some(woken);
-            }
-            self.lengths.push(length)?;
+    /// Ends a wait with a pick at this time.
+    pub(crate) fn end(&mut self, time: u64) -> Option<Wait> {
+        let woken = self.woken?;
+        self.woken = None;
+        Some(Wait {
+            woken,
+            length: time.saturating_sub(woken),
+        })
+    }
+
+    pub(crate) fn add(&mut self, wait: Option<Wait>) -> Result<(), AllocError> {
+        let Some(Wait { woken, length }) = wait else {
+            return Ok(());
+        };
+        if self.greatest_from.is_none() || length > self.greatest {
+            self.greatest = length;
+            self.greatest_from = Some(woken);
         }
+        self.lengths.push(length)?;
         Ok(())
     }
 }

@@ -23,11 +23,12 @@ pub(crate) fn push_notes(
         scene.words.tasks.count(scene.setup.tasks()),
         scene.setup.tasks(),
     )?;
-    if scene.words.from > 0 || scene.words.to.is_some() {
+    let has_window = scene.words.from > 0 || scene.words.to.is_some();
+    if has_window {
         let (from, to) = (scene.scale.from, scene.scale.to);
         writeln!(
             page,
-            "<li>The time is that from {from} ns to {to} ns. A stretch that is partly in it is given whole.</li>"
+            "<li>The time is that from {from} ns to {to} ns. A stretch that is partly in it is given whole; figures count the part.</li>"
         )?;
     }
     if left_out > 0 {
@@ -40,7 +41,11 @@ pub(crate) fn push_notes(
     page.push_str(
         "<li>Zoomed, the picture has no more marks, arrows and lags than before; --from and --to draw a part finer.</li>\n",
     )?;
-    page.push_str("<li>The figures are of the whole time.</li>\n</ul>\n")
+    page.push_str(if has_window {
+        "<li>The figures are of that time alone.</li>\n</ul>\n"
+    } else {
+        "<li>The figures are of the whole time.</li>\n</ul>\n"
+    })
 }
 
 fn push_choice(page: &mut String, what: &str, chosen: usize, all: usize) -> Result<(), AllocError> {

@@ -1,0 +1,63 @@
+//! The race of an order's callers, as SVG: each step at its place of the order, above the history of the one thread that it equals.
+
+mod frame;
+mod history;
+mod rows;
+mod steps;
+
+use crate::moments::Moment;
+use crate::race::frame::{Frame, push_frame};
+use crate::race::history::push_history;
+use crate::race::rows::push_rows;
+use crate::race::steps::steps_of;
+use crate::words::Words;
+use eevdf_ops::Setup;
+use std::alloc::{AllocError, Global};
+
+/// The picture of an order that is played to its end, by which this history comes out: of at most `MOST_PLACES` of its places, from the
+/// first that is asked for on.
+pub(crate) fn race_of(
+    alloc: Global,
+    setup: &Setup,
+    order: &[usize],
+    moments: &[Moment],
+    words: &Words,
+) -> Result<Vec<u8>, AllocError> {
+    let window = window_of(order.len(), words);
+    let race = steps_of(alloc, setup, order, window)?;
+    let frame = Frame::of(alloc, setup, &race, window, order.len())?;
+    let mut text = String::new(alloc);
+    push_frame(&mut text, &frame, moments.len())?;
+    push_rows(&mut text, &frame, &race, moments)?;
+    push_history(alloc, &mut text, &frame, &race, moments)?;
+    text.push_str("</svg>\n")?;
+    Ok(text.into_bytes())
+}
+
+/// So many places of an order are drawn at most.
+const MOST_PLACES: usize = 96;
+
+/// The places of an order that are drawn: from one on, and up to another one that isn't.
+#[derive(Clone, Copy)]
+pub struct Places {
+    pub from: usize,
+    pub to: usize,
+}
+
+impl Places {
+    pub(crate) fn has(&self, place: usize) -> bool {
+        self.from <= place && place < self.to
+    }
+
+    pub(crate) fn count(&self) -> usize {
+        self.to.saturating_sub(self.from)
+    }
+}
+
+/// The places that the words ask for, as far as there are so many.
+fn window_of(all: usize, words: &Words) -> Places {
+    let from = (words.from).min(all as u64) as usize;
+    let asked = words.to.unwrap_or(all as u64).min(all as u64) as usize;
+    let to = asked.min(from.saturating_add(MOST_PLACES)).max(from);
+    Places { from, to }
+}
