@@ -20,7 +20,7 @@ from dataclasses import dataclass
 from pathlib import Path
 
 from edits import FUNCTION as SIGNATURE
-from edits import TOP, BadEdit, are_apart, edits_of, is_of_bodies, names_of
+from edits import TOP, BadEdit, are_apart, cycles_of, edits_of, is_of_bodies, names_of
 from kept import Grounds, Refusals
 from libraries import CRATES, Libraries
 from planting import ENDS, can_be_copied, plant
@@ -103,6 +103,7 @@ class Said:
         for proof, error in errors:
             if is_of_goal(error, wrong_lemmas):
                 wrong_proofs.setdefault(function_of(proof), []).extend(goals_of(error))
+        cyclic = set().union(*cycles_of(folder))
         notes = {}
         for file, line, words, goal in NOTE.findall(text):
             notes.setdefault((file, name_at(folder / file, int(line))), []).append(Unproved(goal, words))
@@ -112,13 +113,15 @@ class Said:
             if told.partition(",")[0] == "proved":
                 self.proved.add(name)
             elif not NOT_COVERED.search(told):
-                places = [(file, name.rpartition("::")[2]) for file in files.get(name, ())]
-                self.look(name, told, wrong_proofs.get(name, []), [note for place in places for note in notes.get(place, [])])
+                own = name.rpartition("::")[2]
+                noted = [note for file in files.get(name, ()) for note in notes.get((file, own), [])]
+                # the proofs of a cycle stand in one folder, so a wrong one doesn't say of which function it is
+                self.look(name, told, wrong_proofs.get(name, []), noted, own in cyclic)
 
-    def look(self, name, told, wrong_proofs, notes):
+    def look(self, name, told, wrong_proofs, notes, is_in_cycle):
         parts = [part for part in told.split("; ") if NOT_FOUND.search(part)]
         unproved = [Unproved(goal, part) for part in parts for goal in GOAL.findall(NOT_FOUND.search(part)[1])]
-        if told.startswith(("not proved", "no proof")) and wrong_proofs:
+        if told.startswith(("not proved", "no proof")) and (wrong_proofs or is_in_cycle):
             unproved += wrong_proofs + notes
         if unproved:
             self.refused[name] = unproved

@@ -11,6 +11,8 @@ TOP = Path(__file__).resolve().parents[2]
 
 # The line that a function begins with.
 FUNCTION = re.compile(r'^( *)(?:pub(?:\([a-z]+\))? )?(?:const )?(?:unsafe )?(?:extern "C" )?fn (\w+)')
+# The attribute of a function that others call which it calls.
+CYCLE = re.compile(r"\s*#\[cycle\((\w+)\)\]")
 # The crates whose wrong bodies each name the clause that they are against.
 BY_CLAUSES = ("eevdf_weight", "eevdf_queue")
 # What may be written by hand of a function's proof, in a folder of its name.
@@ -117,6 +119,27 @@ def functions_of(text):
             end = begin if lines[begin].endswith("}") else lines.index(margin + "}", begin)
             found.append(Function(name, margin, first, begin, end))
     return found
+
+
+def cycle_of(lines, function):
+    """The number of the line above a function that names the cycle of calls in which it stands, with that name, if one does."""
+    number = function.first - 1
+    while number >= 0 and lines[number].lstrip().startswith(("#[", "//")):
+        if named := CYCLE.match(lines[number]):
+            return number, named[1]
+        number -= 1
+    return None
+
+
+def cycles_of(folder):
+    """The names of the functions of each cycle of calls that has a name in the crate of a folder."""
+    cycles = {}
+    for file in (folder / "src").rglob("*.rt"):
+        text = file.read_text()
+        for function in functions_of(text):
+            if found := cycle_of(text.split("\n"), function):
+                cycles.setdefault((file, found[1]), set()).add(function.name)
+    return list(cycles.values())
 
 
 def function_at(text, place):

@@ -6,7 +6,7 @@ import re
 import shutil
 from dataclasses import dataclass
 
-from edits import Function, changed, functions_of, names_of
+from edits import Function, changed, cycles_of, functions_of, names_of
 from stand_ins import put_stand_ins
 
 # How the names of copies end.
@@ -108,6 +108,8 @@ def plant(edits, folder, is_right=False):
     function that is to be refused. The right bodies stand there as the edits would."""
     names = planted_names(edits)
     kept = {name.rpartition("::")[2] for name in names.values()}.union(*(names_of(edit, folder) for edit in edits))
+    # a cycle of calls is one as long as each of its functions has its body
+    kept = kept.union(*(cycle for cycle in cycles_of(folder) if cycle & kept))
     planted, copies, texts = {}, {}, {}
     for edit, name in names.items():
         if name != edit.refused:

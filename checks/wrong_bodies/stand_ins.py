@@ -3,7 +3,7 @@ so a try needs the contracts of the other functions and not their proofs. A stan
 doesn't return, so it meets any contract, and its proof takes next to nothing. Nothing that is proved over stand-ins is kept as a proof
 of the crate, which `rt ci` proves as it stands."""
 
-from edits import PROOF_FILES, functions_of
+from edits import PROOF_FILES, cycle_of, functions_of
 
 MODULE = """//! What stands in for the bodies that aren't tried.
 
@@ -28,6 +28,9 @@ def with_stand_ins(text, kept, planted, copies):
     for function in reversed(functions_of(text)):
         lines[function.end + 1 : function.end + 1] = copies.get(function.first, [])
         if function.name not in kept:
+            # a function that calls none of its cycle stands in none
+            if found := cycle_of(lines, function):
+                lines[found[0]] = ""
             signature = lines[function.begin].removesuffix("}")
             lines[function.begin : function.end + 1] = [signature, function.margin + BODY, function.margin + "}"]
     return "\n".join(lines)
