@@ -93,6 +93,7 @@ fn push_operation(text: &mut Vec<u8>, operation: &Op) -> Result<(), AllocError> 
         Op::Pick => text.extend_from_slice(b"pick"),
         Op::Yield => text.extend_from_slice(b"yield"),
         Op::Sleep(task) => push_with(text, b"sleep ", task.get()),
+        Op::Doze(task) => push_with(text, b"doze ", task.get()),
         Op::Post(task) => push_with(text, b"post ", task.get()),
         Op::Drain => text.extend_from_slice(b"drain"),
         Op::Pull(source) => push_with(text, b"pull ", source.get()),

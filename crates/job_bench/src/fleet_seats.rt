@@ -239,6 +239,7 @@ impl<N: Names> OperatedSeat for Seat<N> {
             Op::Yield => fleet.yield_now(rt, self),
             Op::Renice(task, nice) => fleet.renice(rt, self, known_task(fleet, task)?, nice),
             Op::Sleep(task) => fleet.sleep(rt, self, known_task(fleet, task)?),
+            Op::Doze(task) => fleet.doze(rt, self, known_task(fleet, task)?),
             Op::Pull(source) => {
                 if !fleet.has_cpu(source) || source == self.cpu() {
                     return Err(JobFault::Machine);

@@ -57,6 +57,7 @@ impl Digest {
                 self.add_signed(nice.get());
             }
             Deed::Rebase { cpu } => self.add_words(&[11, cpu.get()]),
+            Deed::Doze { cpu, task } => self.add_words(&[12, cpu.get(), task.get()]),
         }
     }
 

@@ -91,7 +91,13 @@ fn push_whole(
 /// How many steps an operation has, or 0 where it takes two locks.
 fn steps_alone(shape: &Shape, caller: usize, operation: &Op) -> u64 {
     match operation {
-        Op::Sleep(task) | Op::End(task) if task.get() % shape.cpus == caller as u64 => 5,
+        Op::Sleep(task) | Op::Doze(task) | Op::End(task) => {
+            if task.get() % shape.cpus == caller as u64 {
+                5
+            } else {
+                0
+            }
+        }
         Op::Post(_) => 1,
         Op::Drain => 2 * shape.cpus + 2,
         _ if operation.local().is_some() => 4,

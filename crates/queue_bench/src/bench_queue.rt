@@ -110,11 +110,34 @@ impl BenchQueue {
         self.pick();
     }
 
+    /// Lets the running task doze, and picks.
+    #[inline(always)]
+    pub fn doze_pick(&mut self) {
+        if let Some(task) = self.running
+            && self.queue.doze(task).is_some()
+        {
+            self.sleepers.push(task);
+        }
+        self.pick();
+    }
+
     /// Lets the running task fall asleep, picks, and wakes the task that has slept longest. Where nobody was left to run, it
     /// picks once more.
     #[inline(always)]
     pub fn sleep_pick_wake(&mut self) {
         self.sleep_pick();
+        self.wake_next();
+    }
+
+    /// The same by a doze.
+    #[inline(always)]
+    pub fn doze_pick_wake(&mut self) {
+        self.doze_pick();
+        self.wake_next();
+    }
+
+    #[inline(always)]
+    fn wake_next(&mut self) {
         let _ = self.queue.wake(self.sleepers.pop());
         if self.running.is_none() {
             self.pick();

@@ -23,8 +23,14 @@ pub fn checksum_of(alloc: Global, run: &AskedRun) -> Result<u64, AllocError> {
         return pulled_sum(alloc, run);
     }
     let mut bench = BenchQueue::open(alloc, run)?;
-    if run.mix == Mix::SleepPickWake || run.mix == Mix::TickSleepPickWake {
-        repeat(&mut bench, run.tasks / 8, |bench| bench.sleep_pick());
+    match run.mix {
+        Mix::SleepPickWake | Mix::TickSleepPickWake => {
+            repeat(&mut bench, run.tasks / 8, |bench| bench.sleep_pick())
+        }
+        Mix::DozePickWake | Mix::TickDozePickWake => {
+            repeat(&mut bench, run.tasks / 8, |bench| bench.doze_pick())
+        }
+        _ => {}
     }
     make_turns(&mut bench, run.mix, run.turns);
     Ok(bench.sum())
@@ -37,6 +43,8 @@ fn make_turns(bench: &mut BenchQueue, mix: Mix, turns: u64) {
         Mix::SleepPickWake => turns_of!(bench, turns, sleep_pick_wake),
         Mix::YieldPick => turns_of!(bench, turns, yield_now, pick),
         Mix::TickSleepPickWake => turns_of!(bench, turns, tick, sleep_pick_wake),
+        Mix::DozePickWake => turns_of!(bench, turns, doze_pick_wake),
+        Mix::TickDozePickWake => turns_of!(bench, turns, tick, doze_pick_wake),
         Mix::Renice => turns_of!(bench, turns, renice),
         // The pick is known.
         Mix::PickPeek => turns_of!(bench, turns, pick_with_rare_ticks, peek),

@@ -2,6 +2,7 @@
 //! error, its caller's object is as it was before, as the end of the line says.
 
 use crate::fault::Fault;
+use crate::halves::Halves;
 use crate::hand::Hand;
 use crate::task_numbers::{number_of, task_of};
 use eevdf_queue::{Entry, Queue, Sleeper, TaskId};
@@ -40,6 +41,17 @@ pub fn write_rebase<W: Write>(out: &mut W, queue: &mut Queue) -> io::Result<()> 
     writeln!(out, "0 {by}")
 }
 
+pub fn write_doze<W: Write>(out: &mut W, queue: &mut Queue, task: u64) -> io::Result<()> {
+    match doze(queue, task) {
+        Ok(lag) => writeln!(out, "0 {lag}"),
+        Err(fault) => write_fault(out, fault, "-1"),
+    }
+}
+
+fn doze(queue: &mut Queue, task: u64) -> Result<i64, Fault> {
+    queue.doze(task_of(task)?).ok_or(Fault::Absent)
+}
+
 pub fn write_lag<W: Write>(out: &mut W, queue: &Queue, task: u64) -> io::Result<()> {
     match lag_of(queue, task) {
         Ok(lag) => writeln!(out, "0 {lag}"),
@@ -71,6 +83,20 @@ pub fn write_sleeper<W: Write>(out: &mut W, queue: &Queue, task: u64) -> io::Res
 
 fn sleeper_of(queue: &Queue, task: u64) -> Result<Sleeper, Fault> {
     queue.sleeper(task_of(task)?).ok_or(Fault::Absent)
+}
+
+pub fn write_place<W: Write>(out: &mut W, queue: &Queue, task: u64) -> io::Result<()> {
+    match place_of(queue, task) {
+        Ok(place) => {
+            let Halves { high, low } = Halves::of(place);
+            writeln!(out, "0 {high} {low}")
+        }
+        Err(fault) => write_fault(out, fault, "-1 1"),
+    }
+}
+
+fn place_of(queue: &Queue, task: u64) -> Result<i128, Fault> {
+    queue.place_of(task_of(task)?).ok_or(Fault::Absent)
 }
 
 pub fn write_parcel<W: Write>(out: &mut W, hand: &Hand) -> io::Result<()> {
@@ -115,6 +141,10 @@ fn write_task<W: Write>(out: &mut W, queue: &Queue, task: TaskId) -> io::Result<
     }
     if let Some(Sleeper { nice, slice, .. }) = queue.sleeper(task) {
         write!(out, ",{nice},{slice}")?;
+    }
+    if let Some(place) = queue.place_of(task) {
+        let Halves { high, low } = Halves::of(place);
+        write!(out, ",{high},{low}")?;
     }
     Ok(())
 }

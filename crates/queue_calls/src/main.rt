@@ -5,6 +5,7 @@
 
 mod answers;
 mod fault;
+mod halves;
 mod hand;
 mod line;
 mod moves;

@@ -1,6 +1,6 @@
 use crate::answers::{
-    write_answer, write_entry, write_lag, write_parcel, write_rebase, write_sleeper, write_state,
-    write_time,
+    write_answer, write_doze, write_entry, write_lag, write_parcel, write_place, write_rebase,
+    write_sleeper, write_state, write_time,
 };
 use crate::fault::Fault;
 use crate::hand::Hand;
@@ -20,10 +20,12 @@ pub fn make_one<W: Write>(
 ) -> io::Result<()> {
     match call {
         NamedCall::Rebase => write_rebase(out, queue),
+        NamedCall::Doze(task) => write_doze(out, queue, task),
         NamedCall::FloorTime => write_time(out, queue),
         NamedCall::Lag(task) => write_lag(out, queue, task),
         NamedCall::EntryOf(task) => write_entry(out, queue, task),
         NamedCall::SleeperOf(task) => write_sleeper(out, queue, task),
+        NamedCall::PlaceOf(task) => write_place(out, queue, task),
         NamedCall::HandParcel => write_parcel(out, hand),
         NamedCall::State(tasks) => write_state(out, queue, tasks),
         _ => write_answer(out, answer(queue, hand, memory, call)),

@@ -51,7 +51,7 @@ pub fn fleet_calls<R: Print + Wait>(rt: &R, alloc: Global, setup: &Setup) -> Res
 fn kit(alloc: Global, setup: &Setup) -> Result<Kit, AllocError>
     ensures { IfOk result (λ k. setup_of k ≡ setup.now) }
 {
-    Kit::make(alloc, setup, 12, 1)
+    Kit::make(alloc, setup, 15, 1)
 }
 
 fn closed_of<R: Print + Wait>(rt: &R, alloc: Global, setup: &Setup) -> Result<Outcome, AllocError> {

@@ -47,4 +47,7 @@ fn say_asleep(rt: &impl Print, queue: &Queue, task: TaskId, lag: i64) {
     let number = task.get();
     let is_asleep = queue.contains(task) && queue.asleep(task);
     let _ = println!(rt; "task {number} lag {lag} asleep {is_asleep}");
+    if let Some(place) = queue.place_of(task) {
+        let _ = println!(rt; "task {number} dozes at {place}");
+    }
 }

@@ -49,17 +49,24 @@ fn settle(queue: &mut Queue, parcel: Parcel) {
 
 /// Lets each task run and fall asleep, then wakes half of them, and takes others out and puts them back.
 pub fn sleep_and_wake(queue: &mut Queue, tasks: u64) {
-    for _task in 0..tasks {
-        if let Some(task) = queue.pick()
-            && let Some(parcel) = queue.detach_running(task)
-        {
-            queue.put_asleep(parcel);
+    for way in 0..tasks {
+        if let Some(task) = queue.pick() {
+            fall_asleep(queue, task, way);
         }
     }
     for number in 0..tasks {
         if let Some(task) = TaskId::new(number) {
             wake(queue, task);
         }
+    }
+}
+
+/// Puts a task that runs to sleep in one of two ways.
+fn fall_asleep(queue: &mut Queue, task: TaskId, way: u64) {
+    if way % 2 == 0 {
+        let _ = queue.doze(task);
+    } else if let Some(parcel) = queue.detach_running(task) {
+        queue.put_asleep(parcel);
     }
 }
 
