@@ -99,7 +99,7 @@ printf '%s\n' "$right" >"$copy/crates/mine/src/lib.rt"
 put eevdf_queue parcel.rt 'let Parcel { node: _ } = self;' 'let _parcel = self;'
 put eevdf_queue queue/moves.rt 'None => Err(parcel),' 'None => Ok(()),'
 put eevdf_ops halves.rt 'Putting::Runnable => taker.attach(parcel),' $'Putting::Runnable => {\n let _parcel = parcel;\n }'
-put eevdf_ops local_acts.rt 'Putting::Asleep.put(queue, parcel);' 'let _parcel = parcel;'
+put eevdf_ops local_acts.rt 'putting.put(queue, parcel);' 'let _parcel = parcel;'
 put eevdf_ops transfers.rt 'putting.put(taker, parcel);' 'let _parcel = parcel;'
 put eevdf_steps hand.rt 'parcel.retire();' 'let _parcel = parcel;'
 put eevdf_steps work.rt 'putting.put(&mut self.queues[taker.index()], parcel);' 'let _parcel = parcel;'

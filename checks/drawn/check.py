@@ -16,12 +16,13 @@ sys.path.append(str(Path(__file__).resolve().parents[1]))
 
 from differences import OTHER_WORDS, check, check_words  # noqa: E402
 from draw.cases import NAMES, Case, draw  # noqa: E402
-from plain.limits import OF_VERSION_THREE  # noqa: E402
+from plain.limits import OF_VERSION_FOUR, OF_VERSION_THREE  # noqa: E402
 from runner import Checks, Printed, built  # noqa: E402
 
-# Who draws for so long comes to each kind of workload, and goes on until each deed of version 3 was done so many times.
+# Who draws for so long comes to each kind of workload, and goes on until each deed of versions 3 and 4 was done so many times.
 SECONDS_FOR_EACH_KIND = 30
 LEAST_OF_EACH_DEED = 10000
+COUNTED = OF_VERSION_THREE + OF_VERSION_FOUR
 
 
 def parse_words():
@@ -76,8 +77,8 @@ class Comparison(Checks):
         self.done.update(other.done)
 
     def has_done(self, least):
-        """Whether each deed of version 3 was done so often."""
-        return all(self.done[name] >= least for name in OF_VERSION_THREE)
+        """Whether each deed of versions 3 and 4 was done so often."""
+        return all(self.done[name] >= least for name in COUNTED)
 
     def look_for_each_kind(self):
         """A kind that never came has failed."""
@@ -87,7 +88,7 @@ class Comparison(Checks):
 
     def end(self):
         print(f"compared alike: {', '.join(f'{count} {kind}' for kind, count in sorted(self.alike.items()))}")
-        print(f"done of version 3: {', '.join(f'{self.done[name]} {name}' for name in OF_VERSION_THREE)}")
+        print(f"done of versions 3 and 4: {', '.join(f'{self.done[name]} {name}' for name in COUNTED)}")
         return super().end()
 
 
@@ -102,7 +103,7 @@ def compare_one(comparison, programs, number):
 
 
 def compare_share(seed, folder, programs, end, least, numbers):
-    """Compares the workloads of a share's numbers, until the time is over and each deed of version 3 was done so often."""
+    """Compares the workloads of a share's numbers, until the time is over and each deed of versions 3 and 4 was done so often."""
     comparison = Comparison(seed, folder)
     for number in numbers:
         if time.monotonic() >= end and comparison.has_done(least):

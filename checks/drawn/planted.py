@@ -14,7 +14,7 @@ import subprocess
 import sys
 import tempfile
 from concurrent.futures import ThreadPoolExecutor
-from functools import partial
+from itertools import count, islice
 from pathlib import Path
 
 from draw.cases import draw
@@ -49,6 +49,20 @@ WRONG_BODIES = (
     "eevdf_ops/end_away_where_it_ran",
 )
 
+# These are tried on workloads that have a doze.
+OF_DOZES = (
+    "eevdf_queue/doze_forgets_its_place",
+    "eevdf_queue/doze_keeps_a_debt",
+    "eevdf_queue/place_without_the_shift",
+    "eevdf_queue/rebase_forgets_the_shift",
+    "eevdf_queue/wake_before_its_place",
+    "eevdf_queue/begin_keeps_its_place",
+    "eevdf_queue/another_level_drops_the_place",
+    "eevdf_ops/doze_where_it_ran",
+    "eevdf_ops/doze_away_keeps_its_place",
+    "eevdf_ops/sleep_away_keeps_its_place",
+)
+
 
 def parse_words():
     words = argparse.ArgumentParser(description=__doc__)
@@ -56,7 +70,7 @@ def parse_words():
     words.add_argument("--count", type=int, default=120, help="how many workloads are drawn")
     words.add_argument("--jobs", type=int, default=1, help="how many bodies are tried at a time")
     words.add_argument("--look", action="store_true", help="tries nothing: looks whether each body has its place in its crate")
-    words.add_argument("bodies", nargs="*", default=WRONG_BODIES, help="CRATE/NAME of crates/CRATE/must-fail/NAME.edit")
+    words.add_argument("bodies", nargs="*", default=WRONG_BODIES + OF_DOZES, help="CRATE/NAME of crates/CRATE/must-fail/NAME.edit")
     return words.parse_args()
 
 
@@ -67,18 +81,18 @@ def is_for_a_try(case):
     return case.kind in ("solo", "replay") and 800 < len(case.data) < 20000
 
 
-def drawn_cases(seed, count):
-    number = 0
-    while count > 0:
-        case = draw(random.Random(f"{seed} {number}"), number)
-        number += 1
-        if is_for_a_try(case):
-            count -= 1
-            yield case
+def has_doze(case):
+    return is_for_a_try(case) and any(deed[0] == "doze" for deed in case.deeds)
 
 
-def write_cases(folder, seed, count):
-    for at, case in enumerate(drawn_cases(seed, count)):
+def drawn_cases(seed, is_chosen):
+    drawn = (draw(random.Random(f"{seed} {number}"), number) for number in count())
+    return filter(is_chosen, drawn)
+
+
+def write_cases(folder, words, is_chosen):
+    folder.mkdir()
+    for at, case in enumerate(islice(drawn_cases(words.seed, is_chosen), words.count)):
         file = folder / str(at)
         file.write_bytes(case.data)
         file.with_suffix(".args").write_text("".join(f"{word}\n" for word in case.words))
@@ -128,9 +142,9 @@ def fault_of_place(body):
     return None
 
 
-def look_at(checks, body, result):
+def look_at(checks, cases, body, result):
     """All cases of the right bodies have to be as expected, and some case has to find a wrong one."""
-    name = body or "no wrong body"
+    name = body or f"no wrong body, {cases.name}"
     if result is None:
         checks.look(name, "the try failed")
         return
@@ -140,11 +154,14 @@ def look_at(checks, body, result):
 
 
 def try_all(checks, words):
-    bodies = (None, *words.bodies)
     with tempfile.TemporaryDirectory(prefix="planted-cases-") as folder, ThreadPoolExecutor(words.jobs) as pool:
-        write_cases(Path(folder), words.seed, words.count)
-        for body, result in zip(bodies, pool.map(partial(try_body, Path(folder)), bodies)):
-            look_at(checks, body, result)
+        of_all, of_dozes = Path(folder, "any workloads"), Path(folder, "workloads with a doze")
+        write_cases(of_all, words, is_for_a_try)
+        write_cases(of_dozes, words, has_doze)
+        bodies = (None, None, *words.bodies)
+        cases = (of_all, of_dozes, *(of_dozes if body in OF_DOZES else of_all for body in words.bodies))
+        for found in zip(cases, bodies, pool.map(try_body, cases, bodies)):
+            look_at(checks, *found)
 
 
 def main():

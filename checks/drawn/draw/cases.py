@@ -136,7 +136,7 @@ def limits(dice, version):
 KINDS = {solo: 26, replay: 18, run: 18, broken: 10, values: 22, damage: 14, ordered: 12, refused: 5, limits: 0.6}
 
 # How often each version is drawn.
-SHARES = {1: 1, 2: 1, 3: 2}
+SHARES = {1: 1, 2: 1, 3: 1, 4: 1}
 
 # What the cases of these kinds are called.
 NAMES = ("solo", "replay", "run", "broken order", "values", "bytes", "ordered", "ordered or refused", "limits")

@@ -59,11 +59,13 @@ ODD_WORDS = (
     "set", "set 0", "set 0 0", "set 0 0 100000", "set 0 -20 100000000", "set 0 19 99999", "set 0 -21 100000", "set 0 0 100000001",
     "set 0  0 100000", "set 0 0  100000", "set 0 +1 100000", "set 1023 0 100000", "set 1024 0 100000", "set 0 100000 0",
     "rebase", "rebase ", " rebase", "rebase 0", "rebased", "Rebase", "reset", "ends",
+    "doze", "doze 0", "doze 1023", "doze 1024", "doze 00", "doze -1", "doze 0 0", "doze  0", "dozes 0", "Doze 0", "doze 18446744073709551616",
     "0 pick", "1 pick", "15 pick", "16 pick", "63 pick", "64 pick", "00 pick", "+0 pick", "-0 pick", "0  pick", "0\tpick",
     "0pick", "pick 0", "0 tick 1", "0 tick 0", "0 tick 1000000000", "0 tick 1000000001", "0 pull 0", "0 pull 1", "1 pull 0",
     "1 pull 1", "0 sleep 0", "0 sleep 1023", "0 sleep 1024", "1 wake 0 from 0", "0 renice 0 5", "0 renice 0 -0",
     "0 renice 0 20", "0 renice 0 -20", "15 renice 0 -21", "0 begin 0 0 100000", "1 begin 0 0 100000", "0 begin 1 0 100000",
     "0 end 0", "15 end 1023", "0 end 1024", "0 set 0 0 100000", "1 set 0 19 100000000", "0 set 0 0 99999", "0 rebase", "63 rebase",
+    "0 doze 0", "1 doze 0", "15 doze 1023", "0 doze 1024", "64 doze 0", "0 doze", "0 doze 0 from 0",
     "64 rebase", "0 rebase 0", "18446744073709551616 pick", "0 0 pick", "0 pick 0",
 )
 

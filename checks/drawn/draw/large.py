@@ -49,7 +49,10 @@ def too_many_steps(dice, version):
 
 def words_of(version):
     """Operations of a program of CPU 0, whose task 0 is the only one."""
-    return ("pick",) if version < 3 else ("pick", "rebase", "end 0", "set 0 5 100000", "begin 0 0 3000000")
+    if version < 3:
+        return ("pick",)
+    coming = ("pick", "rebase", "end 0", "set 0 5 100000", "begin 0 0 3000000")
+    return coming if version == 3 else (*coming, "doze 0")
 
 
 def long_order(dice, version):

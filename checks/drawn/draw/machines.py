@@ -4,7 +4,7 @@ from dataclasses import dataclass
 from typing import Callable
 
 from plain.limits import VERSIONS
-from plain.machine import Setup, Task, queues_at_start, whole
+from plain.machine import Setup, Task, is_at_home, queues_at_start, whole
 from plain.numbers import BOUND, charge_of, weight_of
 
 SLICES = (100000, 100001, 3000000, 99999999, 100000000)
@@ -110,6 +110,8 @@ def task(dice, cpus, manner):
 # How often each deed is drawn. Where tasks come and go they are woken and picked more often, so that some run.
 SHARES = {"tick": 30, "pick": 24, "yield": 8, "wake": 14, "sleep": 12, "pull": 12, "renice": 14}
 COMING = {"tick": 36, "pick": 36, "wake": 32, "sleep": 16, "begin": 20, "end": 20, "set": 20}
+# Where tasks doze they run and wake more often, and more of them are pulled; few sleep in the plain way, begin anew or end.
+DOZING = {"tick": 72, "wake": 48, "pick": 48, "doze": 48, "sleep": 6, "pull": 36, "begin": 20, "end": 20}
 # Of a script that rebases often no virtual time comes to the end of the range.
 REBASES = (0, 8, 56)
 # The deeds that name nothing.
@@ -118,7 +120,8 @@ ALONE = ("pick", "yield", "rebase")
 
 def shares_of(dice, version):
     """How often a script has each deed of its version."""
-    shares = SHARES | COMING | {"rebase": dice.choice(REBASES)} if version == 3 else SHARES
+    shares = SHARES | COMING | {"rebase": dice.choice(REBASES)} if version >= 3 else SHARES
+    shares = shares | DOZING if version >= 4 else shares
     return {name: share for name, share in shares.items() if name not in VERSIONS[version].unknown}
 
 
@@ -139,17 +142,28 @@ class Script:
         numbers = sorted(numbers)
         return self.dice.choice(numbers) if numbers and self.dice.random() < 0.9 else self.any_task()
 
-    def sleep(self, cpu):
+    def running_on(self, cpu):
         running = self.queues[cpu].running
-        return cpu, ("sleep", self.task_among([] if running is None else [running]))
+        return self.task_among([] if running is None else [running])
+
+    def sleep(self, cpu):
+        return cpu, ("sleep", self.running_on(cpu))
+
+    def doze(self, cpu):
+        """Where a task runs; as often where one runs away from its home, and where one has run ahead, if there are such."""
+        busy = [other for other, queue in enumerate(self.queues) if queue.running is not None]
+        away = [other for other in busy if not is_at_home(self.setup, other, self.queues[other].running)]
+        ahead = [other for other in busy if self.queues[other].lag_of(self.queues[other].running) < 0]
+        cpu = self.dice.choice(self.dice.choice([cpus for cpus in (busy, away, ahead) if cpus] or [[cpu]]))
+        return cpu, ("doze", self.running_on(cpu))
 
     def renice(self, cpu):
         return cpu, ("renice", self.task_among(self.queues[cpu].runnable), self.manner.level(self.dice))
 
     def asleep_among(self, queues):
-        """The tasks that sleep there, half of the time only those that keep a lag, where there are any."""
-        tasks = {task: sleeper.lag for queue in queues for task, sleeper in queue.asleep.items()}
-        kept = [task for task, lag in tasks.items() if lag != 0]
+        """The tasks that sleep there, half of the time only those that keep a lag or a place, where there are any."""
+        tasks = {task: sleeper.lag != 0 or task in queue.places for queue in queues for task, sleeper in queue.asleep.items()}
+        kept = [task for task, keeps in tasks.items() if keeps]
         return kept if kept and self.dice.random() < 0.5 else list(tasks)
 
     def set(self, cpu):
