@@ -136,8 +136,12 @@ def cycles_of(folder):
     cycles = {}
     for file in (folder / "src").rglob("*.rt"):
         text = file.read_text()
+        lines = text.split("\n")
+        # what is planted isn't laid out, so no more is read of it than is asked for
+        if not any(map(CYCLE.match, lines)):
+            continue
         for function in functions_of(text):
-            if found := cycle_of(text.split("\n"), function):
+            if found := cycle_of(lines, function):
                 cycles.setdefault((file, found[1]), set()).add(function.name)
     return list(cycles.values())
 
