@@ -54,12 +54,17 @@ NOT_FOUND = re.compile(r"did not prove (.*)")
 NOTE = re.compile(r"^note: (src/\S+):(\d+):\d+: (it is not proved that .*\(`([^`]+)`\).*)$", re.MULTILINE)
 # An error of a proof file, with its folder, where it is one of a function, and its further lines, which are indented. Its first word is the
 # goal or the lemma that is answered there.
-PROOF_ERROR = re.compile(r"^(?:\./)?proofs/(?:(\S+)/)?[^/\s]+\.antt:\d+:\d+: error: (.*(?:\n  .*)*)", re.MULTILINE)
+PROOF_ERROR = re.compile(r"^(?:\./)?(proofs/(?:(\S+)/)?[^/\s]+\.antt):\d+:\d+: error: (.*(?:\n  .*)*)", re.MULTILINE)
 GOAL = re.compile(r"`([^`]+)`")
 # The goals and the lemmas whose proofs use one that is wrong, and which that is.
 NOT_CHECKED = re.compile(r"(?:on `([^`]+)`, which .*)?w(?:as|ere) not checked: (.*)")
 # By which of these others one of them uses it.
 BY_WAY = re.compile(r" \(via [^)]*\)")
+# How many more there are behind the last one that is named.
+MORE = re.compile(r" and \d+ more$")
+# A line that declares a name in a proof file, and the words of a text there.
+DECLARED = re.compile(r"^ *(?:abbrev )?(?:pub )?([^\s:(]+) :", re.MULTILINE)
+WORD = re.compile(r"[^\s(){}\[\],;.λ]+")
 # What it says where the file only names what isn't there or isn't proved. What is printed of a term may have names that can't be
 # written there; that is no such case.
 NAMES_ALONE = re.compile(r"has no field|has no `|was not admitted|\(nearest: |is not in scope(?! here, so what is shown)")
@@ -98,11 +103,11 @@ class Said:
         error = FIRST_ERROR.search(text)
         self.error = error[0] if error else text[-300:]
         errors = PROOF_ERROR.findall(text)
-        wrong_lemmas = wrong_lemmas_of(error for function, error in errors if not function)
+        wrong_lemmas = wrong_lemmas_of((folder / file, error) for file, function, error in errors if not function)
         wrong_proofs = {}
-        for proof, error in errors:
+        for file, proof, error in errors:
             if is_of_goal(error, wrong_lemmas):
-                wrong_proofs.setdefault(function_of(proof), []).extend(goals_of(error))
+                wrong_proofs.setdefault(function_of(proof), []).extend(goals_of(folder / file, error))
         cyclic = set().union(*cycles_of(folder))
         notes = {}
         for file, line, words, goal in NOTE.findall(text):
@@ -127,12 +132,26 @@ class Said:
             self.refused[name] = unproved
 
 
-def goals_of(error):
-    """The goals that an error of a proof file is of."""
+def goals_of(file, error):
+    """The goals that an error of a proof file is of. Three of those that use a wrong lemma are named; where there are more, they are looked
+    for in the file."""
     if others := NOT_CHECKED.search(error):
-        return [Unproved(goal, error) for goal in BY_WAY.sub("", others[2]).split(", ")]
+        named = BY_WAY.sub("", MORE.sub("", others[2])).split(", ")
+        more = users_of(others[1], file) - set(named) if MORE.search(others[2]) else ()
+        return [Unproved(goal, error) for goal in (*named, *sorted(more))]
     goal = GOAL.match(error)
     return [Unproved(goal[1] if goal else "", error)]
+
+
+def users_of(used, file):
+    """What a proof file declares whose text names this lemma, or one that does."""
+    text = file.read_text()
+    begun = list(DECLARED.finditer(text))
+    words = [(it[1], set(WORD.findall(text[it.start() : end]))) for it, end in zip(begun, [*(it.start() for it in begun[1:]), None])]
+    users = {used}
+    while more := {name for name, named in words if name not in users and named & users}:
+        users |= more
+    return users - {used}
 
 
 def is_of_goal(error, wrong_lemmas):
@@ -142,14 +161,15 @@ def is_of_goal(error, wrong_lemmas):
 
 
 def wrong_lemmas_of(errors):
-    """The lemmas in which a goal doesn't hold, and those that use one, by the errors of their files. A file is read after those it uses."""
+    """The lemmas in which a goal doesn't hold, and those that use one, by their files and the errors there. A file is read after those it
+    uses."""
     wrong = set()
-    for error in errors:
+    for file, error in errors:
         others = NOT_CHECKED.search(error)
         used = others and others[1]
         is_wrong = used in wrong if used else not NAMES_ALONE.search(error)
         if is_wrong:
-            wrong.update(it.goal for it in goals_of(error))
+            wrong.update(it.goal for it in goals_of(file, error))
     return wrong
 
 
