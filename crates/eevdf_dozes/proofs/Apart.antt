@@ -6,22 +6,23 @@ use Rattle.std.proofs.{lemmas.Int.ints}
 use Rattle.eevdf_weight.specs.{Weight.weight_of, Charge.charge_of, Charge.lag_limit_of}
 use Rattle.eevdf_weight.proofs.Weighing.{weight_of-least}
 use Rattle.eevdf_queue.specs.{declared.entry.Entry.Entry, State.State, Laws.PickIsFirst, Laws.PickOfNobody}
-use Rattle.eevdf_queue.specs.{Leaving.stopped, Leaving.nobody_runs, Yield.yield_now, SliceChange.set_slice, Doze.doze, Wake.wake, Rebase.rebase}
+use Rattle.eevdf_queue.specs.{Leaving.stopped, Doze.doze, Wake.wake}
 use Rattle.eevdf_queue.proofs.Foremost.{equal_number}
 use Rattle.eevdf_dozes.specs.{Places.place_of, Stretches.Watch, Stretches.HaveLevels, Stretches.NoneIsPastDue, Stretches.IsChange, Stretches.picked, Stretches.ticked}
 use Rattle.eevdf_dozes.specs.{Punctual.NoneStandsPast, Shares.times_in}
 use Rattle.eevdf_dozes.specs.Calls.{Touches, IsDozing, DozesIfItCounts}
-use Rattle.eevdf_dozes.specs.Histories.{Call, Pick, Tick, Doze, Wake, Yield, SetSlice, Stop, Rebase, Touch, after_calls, SleepersDoze}
+use Rattle.eevdf_dozes.specs.Histories.{Call, Pick, Tick, Doze, Wake, Touch, after_call, after_calls, SleepersDoze}
 use Rattle.eevdf_dozes.specs.{Bounds.Bounds, Bounds.IsWithin, Bounds.IsWithinAlong, Ahead.setback, Ahead.IsAheadByNoMore}
 use Rattle.eevdf_dozes.specs.Apart.{AreAllowedOfAll, SomeIsRunnable, SomeIsRunnableAlong, BeginsTogether, greatest_setback, sum_greatest, most_apart, IsLeast, LeastWeightIs15, NobodyIsEverFarApart}
-use Rattle.eevdf_dozes.proofs.Standing.{AllStand, all_stand, nobody_moves, standing_is_change, yields_stand, slices_stand, stops_stand, rebases_stand}
+use Rattle.eevdf_dozes.proofs.{Standing.all_stand, Standing.nobody_moves, Standing.standing_is_change, StandingCalls.Stands, StandingCalls.stands}
 use Rattle.eevdf_dozes.proofs.Changes.{differs, uncounted, nobody_is, stopped_is, others_may_be_touched, calls_are_changes}
-use Rattle.eevdf_dozes.proofs.Sleepers.{others_doze, stand_dozes, yield_sleepers, rebase_sleepers, slice_dozes, doze_dozes, wake_dozes}
+use Rattle.eevdf_dozes.proofs.Sleepers.{others_doze, doze_dozes, wake_dozes}
 use Rattle.eevdf_dozes.proofs.{Optional.one_place, Optional.there, Optional.IsThen, Optional.standing, Dozing.doze_is, Dozing.wake_is, PutPast.by_stand, PutPast.calls_put_none_past, Punctual.lighter_turn_is_longer}
 use Rattle.eevdf_dozes.proofs.Setbacks.{sum_seen, both_grow, one_within}
-use Rattle.eevdf_dozes.proofs.Near.{level_is_near, some_is}
+use Rattle.eevdf_dozes.proofs.Near.{level_is_near}
 use Rattle.eevdf_dozes.proofs.Behind.{stand_behind, others_behind, dozes_behind, wakes_behind}
 use Rattle.eevdf_dozes.proofs.Close.{watching, reach, IsClose, IsStep, watched_of, within_of, close_by_pick, close_by_tick, close_by_step}
+use Rattle.eevdf_dozes.proofs.Steps.{some_is}
 
 -- ---- the setbacks
 heavier_is_less : (w : Watch) (b : Bounds) (least x t : ℕ) → IsLeast w least → w.counts x ≡ true → setback (watching w x) b t ≤ greatest_setback w b least t
@@ -65,17 +66,17 @@ module _ (w : Watch) (b : Bounds) (least : ℕ) (is_least : IsLeast w least) whe
   abbrev cost : ℕ → ℕ
   cost t = greatest_setback w b least t
 
-  standing_step : (q r : State) (by : ℤ) → AllStand q r by → SleepersDoze w r → IsStep w cost q r
-  standing_step q r by h doze =
-      let change : IsChange (watching w 0) q r = standing_is_change (watching w 0) q r by h in
+  standing_step : (q r : State) → Stands q r → SleepersDoze w q → IsStep w cost q r
+  standing_step q r h sleepers =
+      let change : IsChange (watching w 0) q r = standing_is_change (watching w 0) q r h.by h.all in
       record {
         places = change.places;
-        runs = λ x counts runs. standing_is_change (watching w x) q r by h;
+        runs = λ x counts runs. standing_is_change (watching w x) q r h.by h.all;
         levels = change.levels;
         due = change.due;
-        puts = by_stand w q r by h;
-        behind = stand_behind w cost q r by h;
-        doze = doze;
+        puts = by_stand w q r h.by h.all;
+        behind = stand_behind w cost q r h.by h.all;
+        doze = h.doze w sleepers;
       }
 
   touch_step : (q r : State) (task : ℕ) → w.counts task ≡ false → Touches task q r → SleepersDoze w q → IsStep w cost q r
@@ -177,28 +178,13 @@ module _ (first : PickIsFirst) (nobody : PickOfNobody) (w : Watch) (b : Bounds) 
       let r : State = (wake q task).1 in
       close_along ran r calls allowed.1 within.1 some.1
       (close_by_step w b least costs listed ran q r within.0 (wake_step w b least is_least q task within.0 some.0 c.levels c.due c.doze) c)
-  close_along ran q (Yield ∷ calls) allowed within some c =
-      let r : State = (yield_now q).1 in
-      close_along ran r calls allowed.1 within.1 some.1
-      (close_by_step w b least costs listed ran q r within.0
-      (standing_step w b least is_least q r (pos 0) (yields_stand q) (stand_dozes w q r (pos 0) (yields_stand q) (yield_sleepers q) c.doze)) c)
-  close_along ran q (SetSlice task slice ∷ calls) allowed within some c =
-      let r : State = set_slice q task slice in
-      close_along ran r calls allowed.1 within.1 some.1
-      (close_by_step w b least costs listed ran q r within.0 (standing_step w b least is_least q r (pos 0) (slices_stand q task slice) (slice_dozes w q task slice c.doze)) c)
-  close_along ran q (Stop ∷ calls) allowed within some c =
-      let r : State = nobody_runs q in
-      close_along ran r calls allowed.1 within.1 some.1
-      (close_by_step w b least costs listed ran q r within.0
-      (standing_step w b least is_least q r (pos 0) (stops_stand q) (stand_dozes w q r (pos 0) (stops_stand q) refl c.doze)) c)
-  close_along ran q (Rebase ∷ calls) allowed within some c =
-      let r : State = (rebase q).1 in
-      close_along ran r calls allowed.1 within.1 some.1
-      (close_by_step w b least costs listed ran q r within.0
-      (standing_step w b least is_least q r (rebase q).0 (rebases_stand q) (stand_dozes w q r (rebase q).0 (rebases_stand q) (rebase_sleepers q) c.doze)) c)
   close_along ran q (Touch task r ∷ calls) allowed within some c =
       close_along ran r calls allowed.1 within.1 some.1
       (close_by_step w b least costs listed ran q r within.0 (touch_step w b least is_least q r task allowed.0.0 allowed.0.1 c.doze) c)
+  close_along ran q (call ∷ calls) allowed within some c =
+      let r : State = after_call q call in
+      close_along ran r calls allowed.1 within.1 some.1
+      (close_by_step w b least costs listed ran q r within.0 (standing_step w b least is_least q r (stands q call) c.doze) c)
 
 -- ---- at first
 ahead_at_first : (v u shift mark : ℤ) (request : ℕ) → (v +ℤ shift) ≤ℤ mark → mark ≤ℤ ((u +ℤ shift) +ℤ pos request) → v ≤ℤ (u +ℤ pos request)

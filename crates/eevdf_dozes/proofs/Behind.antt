@@ -13,12 +13,13 @@ use Rattle.eevdf_fairness.proofs.{EntrySums.Each, EntrySums.each, EntrySums.no_h
 use Rattle.eevdf_dozes.specs.{Stretches.Watch, Stretches.IsWatched, Calls.Touches, Calls.IsDozing, Calls.DozesIfItCounts}
 use Rattle.eevdf_dozes.specs.Bounds.{Bounds, IsWithin}
 use Rattle.eevdf_dozes.specs.Ahead.{setback}
-use Rattle.eevdf_dozes.proofs.{Optional.one_entry, Optional.there, PutPast.time_is, PutPast.some_weight}
+use Rattle.eevdf_dozes.proofs.{Optional.one_entry, Optional.there, PutPast.some_weight}
 use Rattle.eevdf_dozes.proofs.Standing.{AllStand, StandsStill}
 use Rattle.eevdf_dozes.proofs.Dozing.{awake_entry, awake_in, doze_is, wake_is}
 use Rattle.eevdf_dozes.proofs.Touching.{doze_touches, wake_touches}
 use Rattle.eevdf_dozes.proofs.Changes.{differs, here_now, none_there, uncounted}
 use Rattle.eevdf_dozes.proofs.Near.{AllStandAfter, PutsNoneFarBehind}
+use Rattle.eevdf_fairness.proofs.Days.{mean_is}
 
 -- ---- where nobody becomes runnable
 absent_still : (by : ℤ) (o now : Option Entry) (e : Entry) → StandsStill by o now → o ≡ None → now ≡ Some e → ⊥
@@ -69,7 +70,7 @@ moments_after time (e ∷ es) h =
 time_after : (q : State) (time : ℤ) → 1 ≤ total_weight q.runnable → ((t : ℕ) (e : Entry) → get q.runnable t ≡ Some e → time ≤ℤ e.v)
     → time ≤ℤ virtual_time q
 time_after q time some h =
-    subst (λ (z : ℤ). time ≤ℤ z) (sym (time_is q some))
+    subst (λ (z : ℤ). time ≤ℤ z) (sym (mean_is q some))
     (no_more time (floor_div (total_moment q.runnable) (total_weight q.runnable)) (total_moment q.runnable) (total_weight q.runnable)
     (moments_after time (entries q.runnable) (each (λ e. time ≤ℤ e.v) q.runnable h))
     (below_next (total_moment q.runnable) (total_weight q.runnable) some))

@@ -1,5 +1,5 @@
 -- Calls keep within bounds of requests, slices and credits.
-use Rattle.std.proofs.Common.{◌≡◌, ℕ, ◌+◌, ◌*◌, ◌≤◌, Bool, true, false, cond, List, [], ◌∷◌, Option, Some, None, refl, sym, ap, ◌∙◌, subst, arith}
+use Rattle.std.proofs.Common.{◌≡◌, ℕ, ◌*◌, ◌≤◌, Bool, true, false, cond, List, [], ◌∷◌, Option, Some, None, refl, sym, ap, ◌∙◌, subst, arith}
 use Rattle.std.specs.Prelude.{ℤ, pos, ◌+ℤ◌, ◌-ℤ◌, ◌≤ℤ◌}
 use Rattle.std.specs.{Option.option_map, Ordering.nat_cmp, Ordering.eq_by_cmp, Int.int_max, List.AllByRecursion}
 use Rattle.std.specs.FinMap.{FinMap, get, insert, remove}
@@ -13,22 +13,21 @@ use Rattle.eevdf_queue.specs.SliceChange.{sleeper_with_slice, set_slice, set_ent
 use Rattle.eevdf_queue.proofs.{Foremost.equal_number, Sound.gone as gone_from, LoweredMaps.get-lowered}
 use Rattle.eevdf_fairness.proofs.Growing.{found_at_after, rounded_down}
 use Rattle.eevdf_dozes.specs.{Stretches.Watch, Stretches.picked, Stretches.ticked, Calls.Touches}
-use Rattle.eevdf_dozes.specs.Histories.{Call, Pick, Tick, Doze, Wake, Yield, SetSlice, Stop, Rebase, Touch, AreAllowed}
+use Rattle.eevdf_dozes.specs.Histories.{Call, Pick, Tick, Doze, Wake, Yield, SetSlice, Stop, Rebase, Touch, after_call, run_after, IsAllowed, AreAllowed}
 use Rattle.eevdf_dozes.specs.Bounds.{Bounds, IsWithin, IsWithinAlong, SliceIsWithin, EntryIsWithin, SleeperIsWithin, AllAreWithin, LeavesWithin, BoundsAreKept, FreshStartIsWithin}
-use Rattle.eevdf_dozes.proofs.{Gains.enough, Ticking.tick_cases, PicksInTime.same_tasks, Sleepers.same_sleepers, Sleepers.sleepers_ticked}
+use Rattle.eevdf_dozes.proofs.{Ticking.tick_cases, PicksInTime.same_tasks, Sleepers.same_sleepers, Sleepers.sleepers_ticked}
 use Rattle.eevdf_dozes.proofs.Dozing.{dozing_of, doze_is, awake_entry, wake_is}
 use Rattle.eevdf_dozes.proofs.Touching.{doze_touches, wake_touches, slice_touches}
 use Rattle.eevdf_dozes.proofs.Changes.{differs, here_now, none_there, uncounted}
+use Rattle.eevdf_fairness.proofs.Inequalities.{no_more as then}
+use Rattle.eevdf_fairness.proofs.Turning.{little_charge}
 
 -- ---- a longer slice is charged more
 longer : (a c : ℕ) (nice : ℤ) → a ≤ c → charge_of a (weight_of nice) ≤ charge_of c (weight_of nice)
-longer a c nice h = enough (charge_of a (weight_of nice)) (weight_of nice) a c (weight_of-least nice) (rounded_down a (weight_of nice)) h
+longer a c nice h = little_charge (charge_of a (weight_of nice)) (weight_of nice) a c (weight_of-least nice) (rounded_down a (weight_of nice)) h
 
 twice : (a c : ℕ) → a ≤ c → 2 * a ≤ 2 * c
 twice a c h = omega (arith, h)
-
-then : (a b c : ℕ) → a ≤ b → b ≤ c → a ≤ c
-then a b c h k = omega (arith, h, k)
 
 due_by : (v : ℤ) (a b : ℕ) → a ≤ b → (v +ℤ pos a) ≤ℤ (v +ℤ pos b)
 due_by v a b h = omega (arith, ints, h)
@@ -252,26 +251,24 @@ module _ (w : Watch) (b : Bounds) where
     credits = λ t s counts here. (h.asleep t s counts here).1;
   }
 
+  within_after : (ran : ℕ) (q : State) (call : Call) → AllAreWithin w b q → IsAllowed w ran q call → LeavesWithin w b call
+      → AllAreWithin w b (after_call q call)
+  within_after ran q Pick h allowed leaves = pick_within q h
+  within_after ran q (Tick ns) h allowed leaves = tick_within q ns h
+  within_after ran q (Doze task) h allowed leaves = doze_within q task h
+  within_after ran q (Wake task) h allowed counts = wake_within q task counts h
+  within_after ran q Yield h allowed never = absurd never
+  within_after ran q (SetSlice task slice) h allowed short = slice_within q task slice short h
+  within_after ran q Stop h allowed leaves = stop_within q h
+  within_after ran q Rebase h allowed leaves = rebase_within q h
+  within_after ran q (Touch task r) h allowed rests = touch_within q r task allowed.0 rests allowed.1.1 h
+
   within_along : (ran : ℕ) (q : State) (calls : List Call) → AllAreWithin w b q → AreAllowed w ran q calls → AllByRecursion (LeavesWithin w b) calls
       → IsWithinAlong w b q calls
   within_along ran q [] h allowed leaves = within_now q h
-  within_along ran q (Pick ∷ calls) h allowed leaves =
-      (within_now q h, within_along 0 (picked q) calls (pick_within q h) allowed.1 leaves.1)
-  within_along ran q (Tick ns ∷ calls) h allowed leaves =
-      (within_now q h, within_along (ran + ns) (ticked q ns) calls (tick_within q ns h) allowed.1 leaves.1)
-  within_along ran q (Doze task ∷ calls) h allowed leaves =
-      (within_now q h, within_along ran (doze q task) calls (doze_within q task h) allowed.1 leaves.1)
-  within_along ran q (Wake task ∷ calls) h allowed leaves =
-      (within_now q h, within_along ran (wake q task).1 calls (wake_within q task leaves.0 h) allowed.1 leaves.1)
-  within_along ran q (Yield ∷ calls) h allowed leaves = absurd leaves.0
-  within_along ran q (SetSlice task slice ∷ calls) h allowed leaves =
-      (within_now q h, within_along ran (set_slice q task slice) calls (slice_within q task slice leaves.0 h) allowed.1 leaves.1)
-  within_along ran q (Stop ∷ calls) h allowed leaves =
-      (within_now q h, within_along ran (nobody_runs q) calls (stop_within q h) allowed.1 leaves.1)
-  within_along ran q (Rebase ∷ calls) h allowed leaves =
-      (within_now q h, within_along ran (rebase q).1 calls (rebase_within q h) allowed.1 leaves.1)
-  within_along ran q (Touch task r ∷ calls) h allowed leaves =
-      (within_now q h, within_along ran r calls (touch_within q r task allowed.0.0 leaves.0 allowed.0.1.1 h) allowed.1 leaves.1)
+  within_along ran q (call ∷ calls) h allowed leaves =
+      let next : AllAreWithin w b (after_call q call) = within_after ran q call h allowed.0 leaves.0 in
+      (within_now q h, within_along (run_after ran call) (after_call q call) calls next allowed.1 leaves.1)
 
 pub bounds_are_kept : BoundsAreKept
 bounds_are_kept w b ran q calls h allowed leaves = within_along w b ran q calls h allowed leaves

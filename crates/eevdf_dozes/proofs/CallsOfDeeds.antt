@@ -1,5 +1,5 @@
 -- One deed of a machine is one call of the queue of a CPU, or leaves it as it is.
-use Rattle.std.proofs.Common.{◌≡◌, ℕ, ◌<◌, Bool, true, false, cond, ◌||◌, List, length, set, Option, Some, None, refl, sym, ap, ◌∙◌, subst}
+use Rattle.std.proofs.Common.{◌≡◌, ℕ, Bool, true, false, cond, ◌||◌, List, length, set, Option, Some, None, refl, sym, ap, ◌∙◌, subst}
 use Rattle.std.specs.Prelude.{◌==◌, ℤ, is_some, Result, Ok, Err}
 use Rattle.std.specs.{FinMap.get, Option.unwrap_or, Result.result_ok}
 use Rattle.std.proofs.{lemmas.List.get_or-set_same}
@@ -14,7 +14,7 @@ use Rattle.eevdf_queue.specs.Attributes.{set as set_task, set_reniced, set_sleep
 use Rattle.eevdf_ops.specs.{declared.deeds.Deed.Deed, declared.deeds.Answer.Answer}
 use Rattle.eevdf_ops.specs.declared.deeds.Deed.TheVariants.{Tick, Pick, Yield, Sleep, Doze, Wake, Pull, Renice, Begin, End, Set, Rebase}
 use Rattle.eevdf_ops.specs.OneQueue.{one_tick, one_pick, one_yield, one_wake, one_renice, one_begin, one_set, one_rebase, answer_of_wake, answer_of_renice, answer_of_set, answer_of_begin}
-use Rattle.eevdf_ops.specs.{Machine.Machine, Machine.queue_at, Setup.home_of, WholeEnd.ending, Whole.whole, PartsLaws.Fits}
+use Rattle.eevdf_ops.specs.{Machine.Machine, Machine.queue_at, Origins.decider, Setup.home_of, WholeEnd.ending, Whole.whole, PartsLaws.Fits}
 use Rattle.eevdf_ops.specs.Parts.{touches, only_at, after_leaving, after_falling_asleep, after_joining, after_putting, answer_of_sleep, answer_of_end, answer_of_pull}
 use Rattle.eevdf_ops.specs.{declared.halves.Putting.Putting, declared.halves.Putting.TheVariants.Dozing}
 use Rattle.eevdf_ops.specs.WholePull.{offer, load_of, pull_decision, with_task}
@@ -144,18 +144,25 @@ module _ (homes : List ℕ) where
       subst (λ (x : Option Call). IsStep x None q r) (sym (some p refl)) (touched p.task q r (subst (Touches p.task q) (sym is) (fallen q p b c)))
 
 module _ (homes : List ℕ) (m : Machine) (k : ℕ) where
-  own : (f : Answer → State → Option Call) (n : Option ℕ) (at : ℕ) (step : State → Answer × State) → at < length m → k ≡ at → ((q : State) → IsStep (f (step q).0 (step q).1) n q (step q).1)
-      → IsStep (f (step (queue_at m at)).0 (queue_at (set m at (step (queue_at m at)).1) k)) n (queue_at m k) (queue_at (set m at (step (queue_at m at)).1) k)
-  own f n at step h here told =
-      subst (λ (i : ℕ). IsStep (f (step (queue_at m at)).0 (queue_at (set m at (step (queue_at m at)).1) i)) n (queue_at m i) (queue_at (set m at (step (queue_at m at)).1) i)) (sym here)
-      (subst (λ (r : State). IsStep (f (step (queue_at m at)).0 r) n (queue_at m at) r) (sym (get_or-set_same m at _ empty_state h)) (told (queue_at m at)))
-
   thrice : (b : Bool) → (b || (b || b)) ≡ true → b ≡ true
   thrice true h = refl
   thrice false h = cc
 
   here_of : (at : ℕ) → ((k == at) || ((k == at) || (k == at))) ≡ true → (k == at) ≡ true
   here_of at h = thrice (k == at) h
+
+  -- what a deed does to its CPU's queue alone
+  own : (d : Deed) (n : Option ℕ) (one : State → Answer × State) → Fits homes d m → ((k == decider d) || ((k == decider d) || (k == decider d))) ≡ true
+      → ((q : State) → IsStep (call_of homes d (one q).0 (one q).1) n q (one q).1)
+      → IsStep (call_of homes d (one (queue_at m (decider d))).0 (queue_at (set m (decider d) (one (queue_at m (decider d))).1) k)) n (queue_at m k)
+      (queue_at (set m (decider d) (one (queue_at m (decider d))).1) k)
+  own d n one fits h told =
+      let at : ℕ = decider d in
+      let r : State = (one (queue_at m at)).1 in
+      subst (λ (i : ℕ). IsStep (call_of homes d (one (queue_at m at)).0 (queue_at (set m at r) i)) n (queue_at m i) (queue_at (set m at r) i))
+      (sym (equal k at (here_of at h)))
+      (subst (λ (s : State). IsStep (call_of homes d (one (queue_at m at)).0 s) n (queue_at m at) s)
+      (sym (get_or-set_same m at r empty_state (decider_below (length m) homes d fits.allowed))) (told (queue_at m at)))
 
   -- ---- a doze at home
   dozed_off : (q r : State) (at task : ℕ) (o : Option Contents) → carried_running q task ≡ o → r ≡ after_putting Dozing o (after_leaving o q) → (home_of homes task == at) ≡ true
@@ -181,28 +188,20 @@ module _ (homes : List ℕ) (m : Machine) (k : ℕ) where
   -- ---- each deed that touches the queue
   touching : (d : Deed) → Fits homes d m → touches homes d k ≡ true → IsStep (call_of homes d (whole homes d m).0 (queue_at (whole homes d m).1 k)) (ticked_at k d) (queue_at m k) (queue_at (whole homes d m).1 k)
   touching (Tick at ns) fits h =
-      own (call_of homes (Tick at ns)) (ticked_at k (Tick at ns)) at (λ q. one_tick q ns) (decider_below (length m) homes (Tick at ns) fits.allowed) (equal k at (here_of at h))
+      own (Tick at ns) (ticked_at k (Tick at ns)) (λ q. one_tick q ns) fits h
       (λ q. record { after = refl; touches = tt; ticks = ap (λ (b : Bool). cond {A = Option ℕ} b (Some ns) None) (sym (here_of at h)) })
-  touching (Pick at) fits h =
-      own (call_of homes (Pick at)) None at one_pick (decider_below (length m) homes (Pick at) fits.allowed) (equal k at (here_of at h))
-      (λ q. record { after = refl; touches = tt; ticks = refl })
-  touching (Yield at) fits h =
-      own (call_of homes (Yield at)) None at one_yield (decider_below (length m) homes (Yield at) fits.allowed) (equal k at (here_of at h))
-      (λ q. record { after = refl; touches = tt; ticks = refl })
-  touching (Rebase at) fits h =
-      own (call_of homes (Rebase at)) None at one_rebase (decider_below (length m) homes (Rebase at) fits.allowed) (equal k at (here_of at h))
-      (λ q. record { after = refl; touches = tt; ticks = refl })
+  touching (Pick at) fits h = own (Pick at) None one_pick fits h (λ q. record { after = refl; touches = tt; ticks = refl })
+  touching (Yield at) fits h = own (Yield at) None one_yield fits h (λ q. record { after = refl; touches = tt; ticks = refl })
+  touching (Rebase at) fits h = own (Rebase at) None one_rebase fits h (λ q. record { after = refl; touches = tt; ticks = refl })
   touching (Wake at task sender) fits h =
-      own (call_of homes (Wake at task sender)) None at (λ q. one_wake q task) (decider_below (length m) homes (Wake at task sender) fits.allowed) (equal k at (here_of at h))
-      (λ q. wake_by homes q at task sender (wake q task).0 refl)
+      own (Wake at task sender) None (λ q. one_wake q task) fits h (λ q. wake_by homes q at task sender (wake q task).0 refl)
   touching (Renice at task nice) fits h =
-      own (call_of homes (Renice at task nice)) None at (λ q. one_renice q task nice) (decider_below (length m) homes (Renice at task nice) fits.allowed) (equal k at (here_of at h))
-      (λ q. renice_by homes q at task nice (renice q task nice).0 refl)
+      own (Renice at task nice) None (λ q. one_renice q task nice) fits h (λ q. renice_by homes q at task nice (renice q task nice).0 refl)
   touching (Begin at task nice slice) fits h =
-      own (call_of homes (Begin at task nice slice)) None at (λ q. one_begin q task nice slice) (decider_below (length m) homes (Begin at task nice slice) fits.allowed) (equal k at (here_of at h))
+      own (Begin at task nice slice) None (λ q. one_begin q task nice slice) fits h
       (λ q. begin_by homes q at task nice slice (is_some (get q.asleep task)) refl)
   touching (Set at task nice slice) fits h =
-      own (call_of homes (Set at task nice slice)) None at (λ q. one_set q task nice slice) (decider_below (length m) homes (Set at task nice slice) fits.allowed) (equal k at (here_of at h))
+      own (Set at task nice slice) None (λ q. one_set q task nice slice) fits h
       (λ q. set_by homes q at task nice slice (set_task q task nice slice).0 refl)
   touching (Sleep at task) fits h =
       let q : State = queue_at m k in

@@ -13,7 +13,9 @@ use Rattle.eevdf_dozes.proofs.Ticking.{IsStill, tick_moves, tick_running_stays, 
 use Rattle.eevdf_dozes.proofs.PicksInTime.{IsInTime, same_tasks, pick_stands, runner_in_time}
 use Rattle.eevdf_dozes.proofs.Sleepers.{pick_dozes, tick_dozes}
 use Rattle.eevdf_dozes.proofs.{Punctual.lighter_turn_is_longer, Setbacks.sum_seen, Setbacks.AreSeenStill, Setbacks.sum_grows, Setbacks.sum_added}
-use Rattle.eevdf_dozes.proofs.Near.{AllStandAfter, PutsNoneFarBehind, IsNear, limit_of, level_is_near, level_by_pick, still_here, moved, near_by_tick, near_by_change, not_seen, none_here, or_true, first_true, which_true, some_is}
+use Rattle.eevdf_dozes.proofs.Near.{AllStandAfter, PutsNoneFarBehind, IsNear, limit_of, level_is_near, level_by_pick, still_here, moved, near_by_tick, near_by_change, none_here, or_true, first_true, which_true}
+use Rattle.eevdf_fairness.proofs.Inequalities.{le_then, no_more}
+use Rattle.eevdf_dozes.proofs.{Changes.uncounted, Punctual.stood_still, Steps.some_is}
 
 -- the same watch with another task that stays
 abbrev pub watching : Watch → ℕ → Watch
@@ -88,15 +90,6 @@ not_after a b h = omega (arith, ints, h)
 after : (a b : ℤ) → int_le a b ≡ false → b ≤ℤ a
 after a b h = omega (arith, ints, h)
 
-shorter : (k m n : ℕ) → k ≤ m → m ≤ n → k ≤ n
-shorter k m n i j = omega (arith, i, j)
-
-le_then : (a b c : ℤ) → a ≤ℤ b → b ≤ℤ c → a ≤ℤ c
-le_then a b c h k = omega (arith, ints, h, k)
-
-no_further : (before place limit : ℤ) (x : ℕ) → place ≡ before +ℤ pos x → x ≡ 0 → before ≤ℤ limit → place ≤ℤ limit
-no_further before place limit x h k l = omega (arith, ints, h, k, l)
-
 grown : (a place : ℤ) (x : ℕ) → a ≤ℤ place → a ≤ℤ (place +ℤ pos x)
 grown a place x h = omega (arith, ints, h)
 
@@ -126,7 +119,7 @@ module _ (w : Watch) (b : Bounds) (least : ℕ) (is_least : IsLeast w least) (co
     where
       by : CameFrom (place_of q t) (charged_for t q ns) place → (charged_for t q ns ≡ 0) ⊎ (q.running ≡ Some t) → place ≤ℤ limit
       by came (inl none) =
-          no_further came.before place limit (charged_for t q ns) came.moved none
+          stood_still came.before place limit (charged_for t q ns) came.moved none
           (le_then came.before c.mark limit (c.past t came.before counts came.there) h)
       by came (inr runs) = runner t place counts runs at
 
@@ -182,7 +175,7 @@ module _ (w : Watch) (b : Bounds) (least : ℕ) (is_least : IsLeast w least) (co
                 place = a.place;
                 there = a.there;
                 later = weaker stands_at stands_at a.place b.request r.near.by (charge_of w.turn least) (sum_seen cost r.near.seen b.others) refl
-                    (shorter r.near.by (turn_charge w x) (charge_of w.turn least) r.near.little (lighter_turn_is_longer w.turn least (w.nice_of x) is_least.some (is_least.none_less x counts_x))) a.later;
+                    (no_more r.near.by (turn_charge w x) (charge_of w.turn least) r.near.little (lighter_turn_is_longer w.turn least (w.nice_of x) is_least.some (is_least.none_less x counts_x))) a.later;
               };
           runner = λ y counts runs. ticked_runner y counts (sym (tick_running_stays q ns) ∙ runs);
         }
@@ -258,7 +251,7 @@ module _ (w : Watch) (b : Bounds) (least : ℕ) (cost : ℕ → ℕ) (listed : (
   seen_first : (t : ℕ) → w.counts t ≡ true → c.seen t ≡ false → now_seen t ≡ true → IsThen (c.mark -ℤ pos (reach w b least cost now_seen)) (place_of r t)
   seen_first t counts not is =
       let f = there (get r.runnable t) (which_true (is_some (get r.runnable t)) (c.seen t) not is) in
-      let absent_before : get q.runnable t ≡ None = none_here (get q.runnable t) (λ g at. not_seen (c.seen t) not (c.here t g at)) in
+      let absent_before : get q.runnable t ≡ None = none_here (get q.runnable t) (λ g at. uncounted (c.seen t) not (c.here t g at)) in
       record {
         place = f.0.v +ℤ r.shift;
         there = standing r.shift (get r.places t) (get r.runnable t) f.0 f.1;

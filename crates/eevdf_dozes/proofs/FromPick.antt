@@ -1,5 +1,5 @@
 -- Deeds of all CPUs as calls of one of them, by parts, and where the first is a pick of it.
-use Rattle.std.proofs.Common.{◌≡◌, ℕ, ◌+◌, ◌++◌, Bool, true, cond, ◌||◌, List, [], ◌∷◌, length, Option, Some, None, refl, sym, ap}
+use Rattle.std.proofs.Common.{◌≡◌, ℕ, ◌++◌, Bool, true, cond, ◌||◌, List, [], ◌∷◌, length, Option, Some, None, refl, sym, ap}
 use Rattle.std.proofs.Common.{◌∙◌, subst}
 use Rattle.std.specs.List.{AllByRecursion}
 use Rattle.std.proofs.lemmas.List.{get_or-set_same}
@@ -9,24 +9,17 @@ use Rattle.eevdf_ops.specs.{Places.AreCpus, Setup.is_allowed, Whole.whole, Whole
 use Rattle.eevdf_ops.proofs.{DeedNames.decider_below, MapCounts.itself, WholePlaces.length-whole}
 use Rattle.eevdf_dozes.specs.Stretches.{Watch, picked, charges}
 use Rattle.eevdf_dozes.specs.Histories as call
-use Rattle.eevdf_dozes.specs.Histories.{Call, Touch, after_call, after_calls, events_of, AreCalls, AreAllowed}
+use Rattle.eevdf_dozes.specs.Histories.{Call, Touch, after_call, after_calls, events_of, run_after, AreCalls, AreAllowed}
 use Rattle.eevdf_dozes.specs.{Ahead.charged_by, OneCpu.call_at, OneCpu.calls_at, OneCpu.and_then, OneCpu.AreAllowedDeeds}
 use Rattle.eevdf_dozes.specs.{OneCpu.GoesByCalls, OneCpu.DeedsAreCalls}
 use Rattle.eevdf_dozes.specs.OneCpuStretches.{KeepTo, from_pick, queue_after, charged_since}
+use Rattle.eevdf_dozes.proofs.CallsOfDeeds.{IsStep, after_maybe, ticked_at, step}
 
 -- ---- the calls are allowed
 pub are_allowed : (w : Watch) (ran : ℕ) (q : State) (calls : List Call) → AreCalls q calls → KeepTo w ran calls → AreAllowed w ran q calls
 are_allowed w ran q [] these keep = tt
-are_allowed w ran q (call.Pick ∷ calls) these keep = (tt, are_allowed w 0 (after_call q call.Pick) calls these keep.1)
-are_allowed w ran q (call.Tick ns ∷ calls) these keep = (keep.0, are_allowed w (ran + ns) (after_call q (call.Tick ns)) calls these keep.1)
-are_allowed w ran q (call.Doze task ∷ calls) these keep = (keep.0, are_allowed w ran (after_call q (call.Doze task)) calls these keep.1)
-are_allowed w ran q (call.Wake task ∷ calls) these keep = (keep.0, are_allowed w ran (after_call q (call.Wake task)) calls these keep.1)
-are_allowed w ran q (call.Yield ∷ calls) these keep = (tt, are_allowed w ran (after_call q call.Yield) calls these keep.1)
-are_allowed w ran q (call.SetSlice task slice ∷ calls) these keep =
-    (tt, are_allowed w ran (after_call q (call.SetSlice task slice)) calls these keep.1)
-are_allowed w ran q (call.Stop ∷ calls) these keep = (tt, are_allowed w ran (after_call q call.Stop) calls these keep.1)
-are_allowed w ran q (call.Rebase ∷ calls) these keep = (tt, are_allowed w ran (after_call q call.Rebase) calls these keep.1)
 are_allowed w ran q (Touch task r ∷ calls) these keep = ((keep.0.0, (keep.0.1, these.0)), are_allowed w ran r calls these.1 keep.1)
+are_allowed w ran q (one ∷ calls) these keep = (keep.0, are_allowed w (run_after ran one) (after_call q one) calls these keep.1)
 
 -- ---- parts of a list of deeds
 module _ (homes : List ℕ) where
@@ -63,6 +56,32 @@ module _ (homes : List ℕ) where
       let n : Machine = (whole homes d m).1 in
       ap (and_then (call_at homes cpu m d)) (calls_appended cpu n before deeds)
       ∙ then_appended (call_at homes cpu m d) (calls_at homes cpu n before) (calls_at homes cpu (machine_after homes n before) deeds)
+
+-- ---- what holds before each deed holds before each call
+module _ (homes : List ℕ) (cpu : ℕ) where
+  pub one_step : (m : Machine) (d : Deed) (ds : List Deed) → AreAllowedDeeds homes m (d ∷ ds)
+      → queue_at (whole homes d m).1 cpu ≡ after_maybe (queue_at m cpu) (call_at homes cpu m d)
+  one_step m d ds allowed =
+      let one : IsStep (call_at homes cpu m d) (ticked_at cpu d) (queue_at m cpu) (queue_at (whole homes d m).1 cpu) =
+      step homes m cpu d (record { allowed = allowed.each.0; cpus = allowed.cpus }) in
+      one.after
+
+  module _ (Holds : State → Type 0) (HoldsAlong : State → List Call → Type 0) (HoldsOn : Machine → List Deed → Type 0)
+      (more : (q : State) (one : Call) (calls : List Call) → Holds q → HoldsAlong (after_call q one) calls → HoldsAlong q (one ∷ calls))
+      (last : (m : Machine) → HoldsOn m [] → HoldsAlong (queue_at m cpu) [])
+      (first : (m : Machine) (d : Deed) (ds : List Deed) → HoldsOn m (d ∷ ds) → Holds (queue_at m cpu) × HoldsOn (whole homes d m).1 ds) where
+    first_along : (o : Option Call) (q r : State) (calls : List Call) → r ≡ after_maybe q o → Holds q → HoldsAlong r calls
+        → HoldsAlong q (and_then o calls)
+    first_along None q r calls is here rest = subst (λ (s : State). HoldsAlong s calls) is rest
+    first_along (Some one) q r calls is here rest = more q one calls here (subst (λ (s : State). HoldsAlong s calls) is rest)
+
+    pub along : (m : Machine) (ds : List Deed) → AreAllowedDeeds homes m ds → HoldsOn m ds → HoldsAlong (queue_at m cpu) (calls_at homes cpu m ds)
+    along m [] allowed all = last m all
+    along m (d ∷ ds) allowed all =
+        let n : Machine = (whole homes d m).1 in
+        let both : Holds (queue_at m cpu) × HoldsOn n ds = first m d ds all in
+        first_along (call_at homes cpu m d) (queue_at m cpu) (queue_at n cpu) (calls_at homes cpu n ds) (one_step m d ds allowed) both.0
+        (along n ds (rest_allowed homes m d ds allowed) both.1)
 
 -- ---- from a pick on
 module _ (homes : List ℕ) (cpu : ℕ) (m : Machine) (deeds : List Deed) (allowed : AreAllowedDeeds homes m (from_pick cpu deeds)) where

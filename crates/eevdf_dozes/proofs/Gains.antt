@@ -2,8 +2,8 @@
 use Rattle.std.proofs.Common.{◌≡◌, ℕ, suc, ◌+◌, ◌*◌, ◌≤◌, ◌⊎◌, true, List, [], ◌∷◌, length, Some, refl, sym, ap, ◌∙◌, subst, inl, inr, arith}
 use Rattle.std.specs.Prelude.{ℤ, pos, ◌+ℤ◌, ◌≤ℤ◌}
 use Rattle.std.specs.{Option.option_map, FinMap.get}
-use Rattle.std.proofs.{lemmas.Int.ints, lemmas.Nat.le-div, Math.Nat.mul-le-mul_left}
-use Rattle.eevdf_weight.specs.{Weight.weight_of, Charge.charge_of}
+use Rattle.std.proofs.{lemmas.Int.ints, Math.Nat.mul-le-mul_left}
+use Rattle.eevdf_weight.specs.{Weight.weight_of}
 use Rattle.eevdf_weight.proofs.Weighing.{weight_of-least}
 use Rattle.eevdf_queue.specs.{declared.entry.Entry.Entry, State.State, Laws.PickIsFirst, Laws.PickOfNobody, Moves.request_of, Moves.fresh_entry}
 use Rattle.eevdf_fairness.proofs.Growing.{rounded_down}
@@ -14,6 +14,7 @@ use Rattle.eevdf_dozes.proofs.Optional.{one_entry, there, IsThen, is_then, stand
 use Rattle.eevdf_dozes.proofs.Ticking.{tick_moves, tick_running_stays, charged_runs}
 use Rattle.eevdf_dozes.proofs.PicksInTime.{pick_stands}
 use Rattle.eevdf_dozes.proofs.Steps.{Goes, stands, goes_then, goes_by_pick, goes_by_tick, goes_by_change, IsLittlePast, IsCarried, pick_carries, tick_carries, change_carries}
+use Rattle.eevdf_fairness.proofs.Turning.{little_charge}
 
 -- ---- the task that stays, along a stretch
 goes_on : (j : ℕ) (p q r : State) (e : Entry) (x : ℕ) (g : Goes j p q e 0) → Goes j q r g.entry x → Goes j p r e x
@@ -37,10 +38,6 @@ goes w ran q (Becomes r ∷ events) e h here =
     goes_on w.stays q r (after_events r events) e (charges w.stays r events) g (goes w ran r events g.entry h.1 g.here)
 
 -- ---- who counts, along a stretch
-pub enough : (by w ran turn : ℕ) → 15 ≤ w → by * w ≤ 1024 * ran → ran ≤ turn → by ≤ charge_of turn w
-unfolding charge_of
-enough by w ran turn some h k = le-div by (turn * 1024) w (omega arith) (omega arith)
-
 -- the limit that a task comes to
 abbrev limit_in : Watch → State → Entry → ℕ → ℤ
 limit_in w r f t = (f.d +ℤ r.shift) +ℤ pos (turn_charge w t)
@@ -58,7 +55,7 @@ within_limit w ran q events f t place short c h then counts runs at =
     let same : g.entry ≡ f = one_entry g.entry f (get (after_events q events).runnable w.stays) g.here then in
     let p : IsLittlePast w ran t (stay.0.d +ℤ q.shift) place = c.runner t place stay.0 counts runs at stay.1 in
     within place (stay.0.d +ℤ q.shift) (f.d +ℤ (after_events q events).shift) p.by (turn_charge w t) p.past
-    (enough p.by (weight_of (w.nice_of t)) ran w.turn (weight_of-least (w.nice_of t)) p.little short)
+    (little_charge p.by (weight_of (w.nice_of t)) ran w.turn (weight_of-least (w.nice_of t)) p.little short)
     (subst (λ (y : Entry). (stay.0.d +ℤ q.shift) ≤ℤ (y.d +ℤ (after_events q events).shift)) same g.later)
 
 -- a task that was charged for `x` and then comes no further than a limit

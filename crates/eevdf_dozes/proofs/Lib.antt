@@ -10,6 +10,7 @@ pub mod Standing
 pub mod Changes
 pub mod PutPast
 pub mod Sleepers
+pub mod StandingCalls
 pub mod Histories
 pub mod Times
 pub mod Shares

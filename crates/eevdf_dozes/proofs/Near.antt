@@ -11,11 +11,13 @@ use Rattle.eevdf_dozes.specs.Stretches.{Event, Picks, Ticks, Becomes, Watch, IsW
 use Rattle.eevdf_dozes.specs.Bounds.{Bounds, IsWithin}
 use Rattle.eevdf_dozes.specs.Ahead.{AreTheOthers, IsAheadByNoMore, setback}
 use Rattle.eevdf_dozes.proofs.Optional.{one_place, one_entry, there, IsThen, is_then, standing}
-use Rattle.eevdf_dozes.proofs.Ticking.{tick_moves, tick_running_stays, charged_runs, little_charged}
+use Rattle.eevdf_dozes.proofs.Ticking.{tick_moves, tick_running_stays, charged_runs, little_charged, no_charge}
 use Rattle.eevdf_dozes.proofs.PicksInTime.{IsInTime, same_tasks, pick_stands, pick_shift, runner_in_time}
 use Rattle.eevdf_dozes.proofs.Sleepers.{absent}
-use Rattle.eevdf_dozes.proofs.Steps.{Goes, goes_by_tick, little_more}
-use Rattle.eevdf_dozes.proofs.{Gains.enough, Setbacks.sum_seen, Setbacks.AreSeenStill, Setbacks.sum_grows, Setbacks.sum_added}
+use Rattle.eevdf_dozes.proofs.Steps.{Goes, goes_by_tick, some_is}
+use Rattle.eevdf_dozes.proofs.{Setbacks.sum_seen, Setbacks.AreSeenStill, Setbacks.sum_grows, Setbacks.sum_added, Changes.uncounted}
+use Rattle.eevdf_fairness.proofs.Growing.{little_more}
+use Rattle.eevdf_fairness.proofs.Turning.{little_charge}
 
 -- all runnable tasks stand here or later
 abbrev pub AllStandAfter : ℤ → State → Type 0
@@ -50,14 +52,8 @@ pub record IsNear (w : Watch) (b : Bounds) (cost : ℕ → ℕ) (ran : ℕ) (q :
   pub runs : q.running ≡ Some w.stays → by * weight_of (w.nice_of w.stays) ≤ 1024 * ran
 
 -- ---- from a moment on at which that task is ahead by no more than a request
-pub some_is : (o : Option Entry) (e : Entry) → o ≡ Some e → is_some o ≡ true
-some_is o e here = ap is_some here
-
 not_before : (v u shift : ℤ) (request more : ℕ) → v ≤ℤ (u +ℤ pos request) → ((v +ℤ shift) -ℤ pos (request + 0 + more)) ≤ℤ (u +ℤ shift)
 not_before v u shift request more h = omega (arith, ints, h)
-
-no_charge : (n ran : ℕ) → 0 * n ≤ 1024 * ran
-no_charge n ran = omega arith
 
 pub level_is_near : (w : Watch) (b : Bounds) (cost : ℕ → ℕ) (ran : ℕ) (q : State) → IsAheadByNoMore w q b.request → IsNear w b cost ran q
 level_is_near w b cost ran q level = record {
@@ -151,7 +147,7 @@ module _ (w : Watch) (b : Bounds) (cost : ℕ → ℕ) (counted : w.counts w.sta
   fits : (x ≡ 0) ⊎ (q.running ≡ Some w.stays) → n.by + x ≤ turn_charge w w.stays
   fits (inl none) = no_more n.by x (turn_charge w w.stays) none n.little
   fits (inr is) =
-      enough (n.by + x) (weight_of (w.nice_of w.stays)) (ran + ns) w.turn (weight_of-least (w.nice_of w.stays)) (grown is) short
+      little_charge (n.by + x) (weight_of (w.nice_of w.stays)) (ran + ns) w.turn (weight_of-least (w.nice_of w.stays)) (grown is) short
 
   pub near_by_tick : IsNear w b cost (ran + ns) (ticked q ns)
   near_by_tick = record {
@@ -174,9 +170,6 @@ module _ (w : Watch) (b : Bounds) (cost : ℕ → ℕ) (counted : w.counts w.sta
   }
 
 -- ---- anything else
-pub not_seen : (seen : Bool) → seen ≡ false → seen ≡ true → ⊥
-not_seen seen not is = cc
-
 pub none_here : (o : Option Entry) → ((e : Entry) → o ≡ Some e → ⊥) → o ≡ None
 none_here None h = refl
 none_here (Some e) h = absurd (h e refl)
@@ -230,8 +223,8 @@ module _ (w : Watch) (b : Bounds) (cost : ℕ → ℕ) (others : AreTheOthers w 
     seen_now : n.seen t ≡ false → now_seen t ≡ true → IsThen (limit_of w b cost r e n.by now_seen) (place_of r t)
     seen_now not is =
         let f = there (get r.runnable t) (which_true (is_some (get r.runnable t)) (n.seen t) not is) in
-        let absent_before : get q.runnable t ≡ None = none_here (get q.runnable t) (λ g at. not_seen (n.seen t) not (n.here t g at)) in
-        let other : t ≡ w.stays → ⊥ = λ same. not_seen (n.seen t) not (subst (λ (u : ℕ). n.seen u ≡ true) (sym same) (n.here w.stays x here)) in
+        let absent_before : get q.runnable t ≡ None = none_here (get q.runnable t) (λ g at. uncounted (n.seen t) not (n.here t g at)) in
+        let other : t ≡ w.stays → ⊥ = λ same. uncounted (n.seen t) not (subst (λ (u : ℕ). n.seen u ≡ true) (sym same) (n.here w.stays x here)) in
         record {
           place = f.0.v +ℤ r.shift;
           there = standing r.shift (get r.places t) (get r.runnable t) f.0 f.1;

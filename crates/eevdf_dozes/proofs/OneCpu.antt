@@ -14,7 +14,7 @@ use Rattle.eevdf_fairness.specs.{Tallies.if_charged_to, Lines.charged_to, Lines.
 use Rattle.eevdf_fairness.specs.Lines as lines
 use Rattle.eevdf_dozes.specs.Stretches.{Event, Picks, Ticks, Becomes, picked, ticked, charged_for, charges}
 use Rattle.eevdf_dozes.specs.{Shares.time_of}
-use Rattle.eevdf_dozes.specs.Histories.{Call, Pick, Tick, Doze, Wake, Yield, SetSlice, Stop, Rebase, Touch, after_calls, events_of, AreCalls}
+use Rattle.eevdf_dozes.specs.Histories.{Call, Tick, Touch, after_calls, events_of, AreCalls}
 use Rattle.eevdf_dozes.specs.OneCpu.{call_at, calls_at, and_then, charged_at, charged_on, AreAllowedDeeds, GoesByCalls, DeedsAreCalls}
 use Rattle.eevdf_dozes.proofs.CallsOfDeeds.{IsStep, after_maybe, TouchesOne, ticks_in, ticked_at, step}
 
@@ -53,29 +53,13 @@ first_after None q calls = refl
 first_after (Some one) q calls = refl
 
 first_calls : (o : Option Call) (q : State) (calls : List Call) → TouchesOne q o → AreCalls (after_maybe q o) calls → AreCalls q (and_then o calls)
-first_calls None q calls h rest = rest
-first_calls (Some Pick) q calls h rest = rest
-first_calls (Some (Tick ns)) q calls h rest = rest
-first_calls (Some (Doze task)) q calls h rest = rest
-first_calls (Some (Wake task)) q calls h rest = rest
-first_calls (Some Yield) q calls h rest = rest
-first_calls (Some (SetSlice task slice)) q calls h rest = rest
-first_calls (Some Stop) q calls h rest = rest
-first_calls (Some Rebase) q calls h rest = rest
 first_calls (Some (Touch task r)) q calls h rest = (h, rest)
+first_calls o q calls h rest = rest
 
 first_over : (g : Measure) (o : Option Call) (q : State) (calls : List Call)
     → over_events g q (events_of q (and_then o calls)) ≡ over_tick g q (ticks_in o) + over_events g (after_maybe q o) (events_of (after_maybe q o) calls)
-first_over g None q calls = omega arith
-first_over g (Some Pick) q calls = omega arith
 first_over g (Some (Tick ns)) q calls = refl
-first_over g (Some (Doze task)) q calls = omega arith
-first_over g (Some (Wake task)) q calls = omega arith
-first_over g (Some Yield) q calls = omega arith
-first_over g (Some (SetSlice task slice)) q calls = omega arith
-first_over g (Some Stop) q calls = omega arith
-first_over g (Some Rebase) q calls = omega arith
-first_over g (Some (Touch task r)) q calls = omega arith
+first_over g o q calls = omega arith
 
 -- ---- what a deed's tick counts
 module _ (homes : List ℕ) (cpu : ℕ) where

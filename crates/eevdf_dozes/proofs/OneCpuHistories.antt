@@ -9,10 +9,7 @@ use Rattle.eevdf_ops.specs.Histories.{AreHistory, machine_told}
 use Rattle.eevdf_ops.proofs.Machines.{length-begun}
 use Rattle.eevdf_dozes.specs.{OneCpu.AreAllowedDeeds, OneCpuHistories.HistoriesGoOnSo}
 use Rattle.eevdf_dozes.proofs.FromPick.{later_allowed}
-
-deeds_appended : (before lines : List Line) → deeds_of (before ++ lines) ≡ deeds_of before ++ deeds_of lines
-deeds_appended [] lines = refl
-deeds_appended (l ∷ before) lines = ap (λ (ds : List Deed). l.deed ∷ ds) (deeds_appended before lines)
+use Rattle.eevdf_balance.proofs.Excuses.{deeds-joined}
 
 each_allowed : (cpus : ℕ) (homes : List ℕ) (ds : List Deed) → list_all (is_allowed cpus homes) ds ≡ true
     → AllByRecursion (λ (d : Deed). is_allowed cpus homes d ≡ true) ds
@@ -47,7 +44,7 @@ histories_go_on_so s before lines h =
     } in
     record {
       allowed = later_allowed homes (start s) (deeds_of before) (deeds_of lines)
-          (subst (AreAllowedDeeds homes (start s)) (deeds_appended before lines) allowed);
+          (subst (AreAllowedDeeds homes (start s)) (deeds-joined before lines) allowed);
       same = sym (history_after homes (start s) before lines h.history);
       after = come_after homes (start s) before lines;
     }

@@ -6,8 +6,7 @@ use Rattle.eevdf_ops.specs.{declared.deeds.Deed.Deed, declared.deeds.Deed.TheVar
 use Rattle.eevdf_ops.specs.{Whole.whole, Whole.machine_after}
 use Rattle.eevdf_fairness.specs.Healing.{HasNotYielded}
 use Rattle.eevdf_dozes.specs.{Stretches.Watch, Stretches.picked, Gains.turn_charge}
-use Rattle.eevdf_dozes.specs.Histories as call
-use Rattle.eevdf_dozes.specs.Histories.{Call, Touch, after_call, after_calls, AreCalls}
+use Rattle.eevdf_dozes.specs.Histories.{Call, Touch, after_call, after_calls, run_after, AreCalls}
 use Rattle.eevdf_dozes.specs.Bounds.{Bounds, IsWithin, IsWithinAlong, BoundsAreKept}
 use Rattle.eevdf_dozes.specs.Ahead.{charged_by, IsAheadByNoMore, most_ahead, BeginsLevel, NobodyIsEverFarAhead, NobodyEverGains}
 use Rattle.eevdf_dozes.specs.Apart.{AreAllowedOfAll, SomeIsRunnable, SomeIsRunnableAlong, BeginsTogether, AreApartByNoMore}
@@ -18,37 +17,23 @@ use Rattle.eevdf_dozes.specs.OneCpuStretches.{from_pick, charged_since}
 use Rattle.eevdf_dozes.specs.OneCpuLater.{IsWithinOn, BoundsAreKeptOnCpu, BeginsLevelOnCpu, NobodyIsEverFarAheadOnCpu, NobodyEverGainsOnCpu}
 use Rattle.eevdf_dozes.specs.OneCpuLater.{KeepToAll, SomeIsRunnableOn, BeginsTogetherOnCpu, NobodyIsEverFarApartOnCpu}
 use Rattle.eevdf_dozes.specs.OneCpuLater.{StaysLaterOnCpu, NobodyGainsLaterOnCpu}
-use Rattle.eevdf_dozes.proofs.{Apart.now_within, CallsOfDeeds.after_maybe, CallsOfDeeds.step, CallsOfDeeds.IsStep, CallsOfDeeds.ticked_at}
-use Rattle.eevdf_dozes.proofs.FromPick.{are_allowed, rest_allowed, before_allowed, later_allowed, calls_appended, after_pick_is}
+use Rattle.eevdf_dozes.proofs.{Apart.now_within, CallsOfDeeds.after_maybe}
+use Rattle.eevdf_dozes.proofs.FromPick.{are_allowed, one_step, along, rest_allowed, before_allowed, later_allowed, calls_appended, after_pick_is}
 use Rattle.eevdf_dozes.proofs.FromPick.{allowed_then, come_to, charged_then}
 
 -- ---- within the bounds, along deeds and along calls
 module _ (w : Watch) (b : Bounds) where
-  within_first : (o : Option Call) (q r : State) (calls : List Call) → r ≡ after_maybe q o → IsWithin w b q → IsWithinAlong w b r calls
-      → IsWithinAlong w b q (and_then o calls)
-  within_first None q r calls is first rest = subst (λ (s : State). IsWithinAlong w b s calls) is rest
-  within_first (Some one) q r calls is first rest = (first, subst (λ (s : State). IsWithinAlong w b s calls) is rest)
-
   first_within : (o : Option Call) (q r : State) (calls : List Call) → r ≡ after_maybe q o → IsWithinAlong w b q (and_then o calls)
       → IsWithin w b q × IsWithinAlong w b r calls
   first_within None q r calls is all = (now_within w b q calls all, subst (λ (s : State). IsWithinAlong w b s calls) (sym is) all)
   first_within (Some one) q r calls is all = (all.0, subst (λ (s : State). IsWithinAlong w b s calls) (sym is) all.1)
 
 module _ (homes : List ℕ) (cpu : ℕ) where
-  one_step : (m : Machine) (d : Deed) (ds : List Deed) → AreAllowedDeeds homes m (d ∷ ds)
-      → queue_at (whole homes d m).1 cpu ≡ after_maybe (queue_at m cpu) (call_at homes cpu m d)
-  one_step m d ds allowed =
-      let one : IsStep (call_at homes cpu m d) (ticked_at cpu d) (queue_at m cpu) (queue_at (whole homes d m).1 cpu) =
-      step homes m cpu d (record { allowed = allowed.each.0; cpus = allowed.cpus }) in
-      one.after
-
   along_calls : (w : Watch) (b : Bounds) (m : Machine) (ds : List Deed) → AreAllowedDeeds homes m ds → IsWithinOn w b homes cpu m ds
       → IsWithinAlong w b (queue_at m cpu) (calls_at homes cpu m ds)
-  along_calls w b m [] allowed within = within
-  along_calls w b m (d ∷ ds) allowed within =
-      let n : Machine = (whole homes d m).1 in
-      within_first w b (call_at homes cpu m d) (queue_at m cpu) (queue_at n cpu) (calls_at homes cpu n ds) (one_step m d ds allowed)
-      within.0 (along_calls w b n ds (rest_allowed homes m d ds allowed) within.1)
+  along_calls w b =
+      along homes cpu (IsWithin w b) (IsWithinAlong w b) (IsWithinOn w b homes cpu) (λ q one calls here rest. (here, rest)) (λ m all. all)
+      (λ m d ds all. all)
 
   along_deeds : (w : Watch) (b : Bounds) (m : Machine) (ds : List Deed) → AreAllowedDeeds homes m ds
       → IsWithinAlong w b (queue_at m cpu) (calls_at homes cpu m ds) → IsWithinOn w b homes cpu m ds
@@ -56,22 +41,15 @@ module _ (homes : List ℕ) (cpu : ℕ) where
   along_deeds w b m (d ∷ ds) allowed within =
       let n : Machine = (whole homes d m).1 in
       let both : IsWithin w b (queue_at m cpu) × IsWithinAlong w b (queue_at n cpu) (calls_at homes cpu n ds) =
-      first_within w b (call_at homes cpu m d) (queue_at m cpu) (queue_at n cpu) (calls_at homes cpu n ds) (one_step m d ds allowed)
-      within in
+      first_within w b (call_at homes cpu m d) (queue_at m cpu) (queue_at n cpu) (calls_at homes cpu n ds)
+      (one_step homes cpu m d ds allowed) within in
       (both.0, along_deeds w b n ds (rest_allowed homes m d ds allowed) both.1)
-
-  some_first : (o : Option Call) (q r : State) (calls : List Call) → r ≡ after_maybe q o → SomeIsRunnable q
-      → SomeIsRunnableAlong r calls → SomeIsRunnableAlong q (and_then o calls)
-  some_first None q r calls is first rest = subst (λ (s : State). SomeIsRunnableAlong s calls) is rest
-  some_first (Some one) q r calls is first rest = (first, subst (λ (s : State). SomeIsRunnableAlong s calls) is rest)
 
   some_along : (m : Machine) (ds : List Deed) → AreAllowedDeeds homes m ds → SomeIsRunnableOn homes cpu m ds
       → SomeIsRunnableAlong (queue_at m cpu) (calls_at homes cpu m ds)
-  some_along m [] allowed some = tt
-  some_along m (d ∷ ds) allowed some =
-      let n : Machine = (whole homes d m).1 in
-      some_first (call_at homes cpu m d) (queue_at m cpu) (queue_at n cpu) (calls_at homes cpu n ds) (one_step m d ds allowed) some.0
-      (some_along n ds (rest_allowed homes m d ds allowed) some.1)
+  some_along =
+      along homes cpu SomeIsRunnable SomeIsRunnableAlong (SomeIsRunnableOn homes cpu) (λ q one calls here rest. (here, rest)) (λ m all. tt)
+      (λ m d ds all. all)
 
 pub bounds_are_kept : DeedsAreCalls → BoundsAreKept → BoundsAreKeptOnCpu
 bounds_are_kept are_calls law w b homes cpu ran m deeds allowed keep all leave =
@@ -142,17 +120,8 @@ nobody_ever_gains are_calls law w b homes cpu m n before deeds f h is last short
 allowed_of_all : (w : Watch) (ran : ℕ) (q : State) (calls : List Call) → AreCalls q calls → KeepToAll w ran calls
     → AreAllowedOfAll w ran q calls
 allowed_of_all w ran q [] these keep = tt
-allowed_of_all w ran q (call.Pick ∷ calls) these keep = (tt, allowed_of_all w 0 (after_call q call.Pick) calls these keep.1)
-allowed_of_all w ran q (call.Tick ns ∷ calls) these keep =
-    (keep.0, allowed_of_all w (ran + ns) (after_call q (call.Tick ns)) calls these keep.1)
-allowed_of_all w ran q (call.Doze task ∷ calls) these keep = (tt, allowed_of_all w ran (after_call q (call.Doze task)) calls these keep.1)
-allowed_of_all w ran q (call.Wake task ∷ calls) these keep = (tt, allowed_of_all w ran (after_call q (call.Wake task)) calls these keep.1)
-allowed_of_all w ran q (call.Yield ∷ calls) these keep = (tt, allowed_of_all w ran (after_call q call.Yield) calls these keep.1)
-allowed_of_all w ran q (call.SetSlice task slice ∷ calls) these keep =
-    (tt, allowed_of_all w ran (after_call q (call.SetSlice task slice)) calls these keep.1)
-allowed_of_all w ran q (call.Stop ∷ calls) these keep = (tt, allowed_of_all w ran (after_call q call.Stop) calls these keep.1)
-allowed_of_all w ran q (call.Rebase ∷ calls) these keep = (tt, allowed_of_all w ran (after_call q call.Rebase) calls these keep.1)
 allowed_of_all w ran q (Touch task r ∷ calls) these keep = ((keep.0, these.0), allowed_of_all w ran r calls these.1 keep.1)
+allowed_of_all w ran q (call ∷ calls) these keep = (keep.0, allowed_of_all w (run_after ran call) (after_call q call) calls these keep.1)
 
 module _ (are_calls : DeedsAreCalls) (w : Watch) (b : Bounds) (homes : List ℕ) (cpu ran : ℕ) (m : Machine) where
   begins_together : (deeds : List Deed) → BeginsTogetherOnCpu w b homes cpu ran m deeds

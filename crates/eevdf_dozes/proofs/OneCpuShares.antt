@@ -11,7 +11,7 @@ use Rattle.eevdf_fairness.specs.Lines as lines
 use Rattle.eevdf_dozes.specs.{Stretches.Watch, Stretches.picked, Gains.sum_weights}
 use Rattle.eevdf_dozes.specs.Shares.{sum_times, HaveNoShorterTicks, HasShareOfTime, StaysServed, WhoStaysHasItsShare, lack_of}
 use Rattle.eevdf_dozes.specs.Shares.{IsBeside, numbers, sum_slices, HasNoMoreOfTime, SleepsServed, WhoSleepsHasNoMore}
-use Rattle.eevdf_dozes.specs.Histories.{Call, Pick, Tick, Doze, Wake, Yield, SetSlice, Stop, Rebase, Touch, events_of}
+use Rattle.eevdf_dozes.specs.Histories.{Call, Tick, events_of}
 use Rattle.eevdf_dozes.specs.OneCpu.{call_at, calls_at, and_then, AreAllowedDeeds}
 use Rattle.eevdf_dozes.specs.OneCpuStretches.{from_pick, events_on, IsStretchOn, OneCpuHasStretch}
 use Rattle.eevdf_dozes.specs.OneCpuShares.{times_on, IsNoShorter, WhoStaysHasItsShareOnCpu, IsBesideOnCpu, WhoSleepsHasNoMoreOnCpu}
@@ -25,16 +25,8 @@ IsLong least (Some ns) = least ≤ ns
 
 first_long : (least : ℕ) (o : Option Call) (q : State) (calls : List Call) → IsLong least (ticks_in o) → HaveNoShorterTicks least (events_of (after_maybe q o) calls)
     → HaveNoShorterTicks least (events_of q (and_then o calls))
-first_long least None q calls long rest = rest
-first_long least (Some Pick) q calls long rest = rest
 first_long least (Some (Tick ns)) q calls long rest = (long, rest)
-first_long least (Some (Doze task)) q calls long rest = rest
-first_long least (Some (Wake task)) q calls long rest = rest
-first_long least (Some Yield) q calls long rest = rest
-first_long least (Some (SetSlice task slice)) q calls long rest = rest
-first_long least (Some Stop) q calls long rest = rest
-first_long least (Some Rebase) q calls long rest = rest
-first_long least (Some (Touch task r)) q calls long rest = rest
+first_long least o q calls long rest = rest
 
 module _ (homes : List ℕ) (cpu least : ℕ) where
   tick_long : (at ns : ℕ) (b : Bool) → (cpu == at) ≡ b → (cpu ≡ at → least ≤ ns) → IsLong least (cond b (Some ns) None)

@@ -1,5 +1,5 @@
 -- The deeds of a machine are a stretch of the queue of each CPU, and so the laws of stretches hold there.
-use Rattle.std.proofs.Common.{◌≡◌, ℕ, ◌+◌, ◌*◌, ◌≤◌, List, [], ◌∷◌, length, Option, Some, None, refl, sym, ap, ◌∙◌, subst}
+use Rattle.std.proofs.Common.{◌≡◌, ℕ, ◌+◌, ◌*◌, ◌≤◌, List, [], ◌∷◌, length, Some, refl, sym, ap, ◌∙◌, subst}
 use Rattle.std.specs.Prelude.{ℤ, pos, ◌+ℤ◌}
 use Rattle.std.specs.{FinMap.get}
 use Rattle.eevdf_weight.specs.Weight.{weight_of}
@@ -10,24 +10,18 @@ use Rattle.eevdf_dozes.specs.Stretches.{Watch, picked, charges}
 use Rattle.eevdf_dozes.specs.Gains.{turn_charge, ComesNoFurther, StaysWith, NoneRunsFarPast, NobodyGains, TogetherNobodyGains, sum_charges, sum_weights}
 use Rattle.eevdf_dozes.specs.Punctual.{AllCount, IsPunctual, RequestsStayPunctual}
 use Rattle.eevdf_dozes.specs.Histories.{Call, events_of, AllCountAlong, BeginWithPick, CallsBeginWithPick}
-use Rattle.eevdf_dozes.specs.OneCpu.{call_at, calls_at, and_then, AreAllowedDeeds, DeedsAreCalls}
+use Rattle.eevdf_dozes.specs.OneCpu.{calls_at, AreAllowedDeeds, DeedsAreCalls}
 use Rattle.eevdf_dozes.specs.OneCpuStretches.{BeginsOnCpu, StaysOnCpu, queue_after, charged_since, events_on, AllCountOn, IsStretchOn, OneCpuHasStretch}
 use Rattle.eevdf_dozes.specs.OneCpuStretches.{NoneRunsFarPastOnCpu, NobodyGainsOnCpu, sum_charged, TogetherNobodyGainsOnCpu, RequestsStayPunctualOnCpu}
-use Rattle.eevdf_dozes.proofs.{CallsOfDeeds.after_maybe, CallsOfDeeds.step, Tame.after_same}
-use Rattle.eevdf_dozes.proofs.FromPick.{rest_allowed, after_pick_is, at_pick, all_goes, allowed_then, come_to, charged_then}
+use Rattle.eevdf_dozes.proofs.Tame.{after_same}
+use Rattle.eevdf_dozes.proofs.FromPick.{along, rest_allowed, after_pick_is, at_pick, all_goes, allowed_then, come_to, charged_then}
 
 -- ---- what counts along deeds counts along calls
-module _ (w : Watch) (homes : List ℕ) (cpu : ℕ) where
-  first_counts : (o : Option Call) (q r : State) (calls : List Call) → r ≡ after_maybe q o → AllCount w q.runnable → AllCountAlong w r calls → AllCountAlong w q (and_then o calls)
-  first_counts None q r calls is all rest = subst (λ (s : State). AllCountAlong w s calls) is rest
-  first_counts (Some one) q r calls is all rest = (all, subst (λ (s : State). AllCountAlong w s calls) is rest)
-
-  counts_along : (m : Machine) (ds : List Deed) → AreAllowedDeeds homes m ds → AllCountOn w homes cpu m ds → AllCountAlong w (queue_at m cpu) (calls_at homes cpu m ds)
-  counts_along m [] allowed all = tt
-  counts_along m (d ∷ ds) allowed all =
-      first_counts (call_at homes cpu m d) (queue_at m cpu) (queue_at (whole homes d m).1 cpu) (calls_at homes cpu (whole homes d m).1 ds)
-      (step homes m cpu d (record { allowed = allowed.each.0; cpus = allowed.cpus })).after all.0
-      (counts_along (whole homes d m).1 ds (rest_allowed homes m d ds allowed) all.1)
+counts_along : (w : Watch) (homes : List ℕ) (cpu : ℕ) (m : Machine) (ds : List Deed) → AreAllowedDeeds homes m ds → AllCountOn w homes cpu m ds
+    → AllCountAlong w (queue_at m cpu) (calls_at homes cpu m ds)
+counts_along w homes cpu =
+    along homes cpu (λ (q : State). AllCount w q.runnable) (AllCountAlong w) (AllCountOn w homes cpu) (λ q one calls here rest. (here, rest))
+    (λ m all. tt) (λ m d ds all. all)
 
 -- ---- the stretch
 module _ (are_calls : DeedsAreCalls) (calls_begin : CallsBeginWithPick) (w : Watch) (homes : List ℕ) (cpu : ℕ) (m : Machine) (deeds : List Deed) (h : BeginsOnCpu w homes cpu m deeds) where

@@ -1,40 +1,25 @@
 -- Who is picked isn't past the deadline of any runnable task.
 use Rattle.std.proofs.Common.{◌≡◌, ℕ, Bool, true, false, Option, Some, None, refl, ap, ◌∙◌, inl, inr, arith}
-use Rattle.std.specs.Prelude.{ℤ, pos, ◌*ℤ◌, ◌≤ℤ◌, int_le, int_lt, is_some}
+use Rattle.std.specs.Prelude.{ℤ, ◌≤ℤ◌, is_some}
 use Rattle.std.specs.{Ordering.nat_cmp, FinMap.get, FinMap.empty, FinMap.get-empty}
 use Rattle.std.proofs.lemmas.Int.{ints}
 use Rattle.eevdf_queue.specs.{declared.entry.Entry.Entry, State.State, Laws.PickIsFirst, Laws.PickOfNobody}
 use Rattle.eevdf_queue.specs.Sums.{Tasks, total_weight, total_moment}
 use Rattle.eevdf_queue.specs.Pick.{IsNoLater, IsPick, is_eligible, pick_of, picked_by, after_pick}
 use Rattle.eevdf_queue.specs.Tick.{tick}
-use Rattle.eevdf_queue.proofs.Scaled.{scaled_le}
-use Rattle.eevdf_fairness.proofs.RestOfQueue.{pick_rest, tick_rest}
+use Rattle.eevdf_fairness.proofs.{RestOfQueue.pick_rest, RestOfQueue.tick_rest, Turning.not_past_one, Inequalities.le_then}
 use Rattle.eevdf_dozes.specs.{Places.place_of, Stretches.NoneIsPastDue}
 
 no_later : (v d e : ℤ) (p u : ℕ) (x f : Entry) → v ≤ℤ d → x.d ≡ d → f.d ≡ e → IsNoLater p x u f → v ≤ℤ e
 no_later v d e p u x f h i j (inl k) = omega (arith, ints, h, i, j, k)
 no_later v d e p u x f h i j (inr k) = omega (arith, ints, h, i, j, k.0)
 
--- one that is eligible isn't past one that isn't
-not_past_one : (a b S : ℤ) (W : ℕ) → int_le (a *ℤ pos W) S ≡ true → int_le (b *ℤ pos W) S ≡ false → a ≤ℤ b
-not_past_one a b S W h k =
-    by (int_lt b a) refl
-  where
-    by : (t : Bool) → int_lt b a ≡ t → a ≤ℤ b
-    by true is =
-        let less : b ≤ℤ a = omega (arith, ints, is) in
-        absurd (omega (arith, ints, h, k, scaled_le b a W less))
-    by false is = omega (arith, ints, is)
-
-then : (a b c : ℤ) → a ≤ℤ b → b ≤ℤ c → a ≤ℤ c
-then a b c h k = omega (arith, ints, h, k)
-
 in_time_by : (tasks : Tasks) (p : ℕ) (pick : IsPick tasks p) → NoneIsPastDue tasks → (u : ℕ) (f : Entry) → get tasks u ≡ Some f
     → (b : Bool) → is_eligible tasks f ≡ b → pick.entry.v ≤ℤ f.d
 in_time_by tasks p pick due u f here true is =
     no_later pick.entry.v pick.entry.d f.d p u pick.entry f (due p pick.entry pick.eligible.here) refl refl (pick.first u f (record { here = here; owed = is }))
 in_time_by tasks p pick due u f here false is =
-    then pick.entry.v f.v f.d (not_past_one pick.entry.v f.v (total_moment tasks) (total_weight tasks) pick.eligible.owed is) (due u f here)
+    le_then pick.entry.v f.v f.d (not_past_one pick.entry.v f.v (total_moment tasks) (total_weight tasks) pick.eligible.owed is) (due u f here)
 
 -- ---- the queue after a pick
 pub same_tasks : (q : State) (o : Option ℕ) → (picked_by q o).runnable ≡ q.runnable

@@ -18,7 +18,7 @@ use Rattle.eevdf_dozes.proofs.Optional.{one_entry, there, CameFrom, came_from, s
 use Rattle.eevdf_dozes.proofs.Ticking.{tick_moves, tick_running_stays, charged_runs}
 use Rattle.eevdf_dozes.proofs.PicksInTime.{same_tasks, pick_stands, pick_shift}
 use Rattle.eevdf_dozes.proofs.Steps.{Goes, goes_by_tick, goes_by_change, IsLittlePast, IsCarried, pick_carries, tick_carries, change_carries}
-use Rattle.eevdf_dozes.proofs.Gains.{enough}
+use Rattle.eevdf_fairness.proofs.Turning.{little_charge}
 
 -- ---- the limit, at each moment
 abbrev Within : Watch → ℕ → State → Type 0
@@ -27,7 +27,7 @@ Within w most q = (e : Entry) → get q.runnable w.stays ≡ Some e → NoneStan
 raised : (place due later : ℤ) (most : ℕ) → place ≤ℤ (due +ℤ pos most) → due ≤ℤ later → place ≤ℤ (later +ℤ pos most)
 raised place due later most h k = omega (arith, ints, h, k)
 
-stood_still : (before place limit : ℤ) (x : ℕ) → place ≡ before +ℤ pos x → x ≡ 0 → before ≤ℤ limit → place ≤ℤ limit
+pub stood_still : (before place limit : ℤ) (x : ℕ) → place ≡ before +ℤ pos x → x ≡ 0 → before ≤ℤ limit → place ≤ℤ limit
 stood_still before place limit x h k l = omega (arith, ints, h, k, l)
 
 ran_little : (place due : ℤ) (by turn most : ℕ) → place ≤ℤ (due +ℤ pos by) → by ≤ turn → turn ≤ most → place ≤ℤ (due +ℤ pos most)
@@ -59,7 +59,7 @@ module _ (first : PickIsFirst) (nobody : PickOfNobody) (w : Watch) (most : ℕ) 
           let p : IsLittlePast w (ran + ns) t (e.d +ℤ (ticked q ns).shift) place =
           (tick_carries w ran ns q c).runner t place e counts (tick_running_stays q ns ∙ runs) at here in
           ran_little place (e.d +ℤ (ticked q ns).shift) p.by (turn_charge w t) most p.past
-          (enough p.by (weight_of (w.nice_of t)) (ran + ns) w.turn (weight_of-least (w.nice_of t)) p.little short) (allowed t counts)
+          (little_charge p.by (weight_of (w.nice_of t)) (ran + ns) w.turn (weight_of-least (w.nice_of t)) p.little short) (allowed t counts)
 
   within_by_change : (q r : State) (e : Entry) → get q.runnable w.stays ≡ Some e → Goes w.stays q r e 0
       → ((limit : ℤ) → NoneStandsPast w limit q → NoneStandsPast w limit r) → Within w most q → Within w most r

@@ -1,6 +1,6 @@
 -- No call puts a task that counts past where one of them stood.
 use Rattle.std.proofs.Common.{◌≡◌, ℕ, ◌+◌, ◌≤◌, Bool, true, false, cond, Option, Some, refl, sym, ap, ◌∙◌, subst, arith}
-use Rattle.std.specs.Prelude.{ℤ, pos, negsuc, ◌+ℤ◌, ◌-ℤ◌, ◌*ℤ◌, ◌≤ℤ◌, ◌==◌, int_le, is_some}
+use Rattle.std.specs.Prelude.{ℤ, pos, negsuc, ◌+ℤ◌, ◌-ℤ◌, ◌*ℤ◌, ◌≤ℤ◌, ◌==◌, is_some}
 use Rattle.std.specs.{Ordering.nat_cmp, Ordering.eq_by_cmp, Int.int_max}
 use Rattle.std.specs.FinMap.{get, remove}
 use Rattle.std.proofs.{lemmas.Int.ints, lemmas.Int.clamps}
@@ -9,8 +9,8 @@ use Rattle.eevdf_weight.proofs.Weighing.{weight_of-least}
 use Rattle.eevdf_queue.specs.{declared.entry.Entry.Entry, declared.sleeper.Sleeper.Sleeper, State.State, Placing.placement, Doze.doze, Wake.waking_runtime, Wake.wake}
 use Rattle.eevdf_queue.specs.Sums.{total_weight, total_moment, virtual_time}
 use Rattle.eevdf_queue.specs.{Yield.yield_now, SliceChange.set_slice, Leaving.nobody_runs, Rebase.rebase}
-use Rattle.eevdf_queue.proofs.{Foremost.equal_number, Floors.not_above, Scaled.scaled_le, Scaled.sum_scaled}
-use Rattle.eevdf_fairness.proofs.{EntrySums.no_heavier, Inequalities.not_zero}
+use Rattle.eevdf_queue.proofs.{Foremost.equal_number, Floors.not_above, Floors.no_more, Scaled.scaled_le}
+use Rattle.eevdf_fairness.proofs.{EntrySums.no_heavier, Days.mean_is}
 use Rattle.eevdf_dozes.specs.Places.{place_by, place_of}
 use Rattle.eevdf_dozes.specs.{Stretches.Watch, Punctual.NoneStandsPast, Punctual.AllCount}
 use Rattle.eevdf_dozes.specs.Calls.{Touches, PutsNonePast, IsDozing, DozesIfItCounts, CallsPutNonePast}
@@ -68,29 +68,15 @@ placed_in_time : (q : State) (s : Sleeper) → pos 0 ≤ℤ s.lag → placement 
 placed_in_time q s h = runtime_by (virtual_time q) s.lag s.nice (total_weight q.runnable) (total_weight q.runnable == 0) h
 
 -- ---- and the virtual time isn't past where all stand
-no_more : (a c : ℤ) (n : ℕ) → 1 ≤ n → (a *ℤ pos n) ≤ℤ (c *ℤ pos n) → a ≤ℤ c
-no_more a c n some h =
-    by (int_le a c) refl
-  where
-    by : (b : Bool) → int_le a c ≡ b → a ≤ℤ c
-    by true is = omega (arith, ints, is)
-    by false is =
-        let over : (c +ℤ pos 1) ≤ℤ a = omega (arith, ints, is) in
-        absurd (omega (arith, ints, h, some, scaled_le (c +ℤ pos 1) a n over, sum_scaled c (pos 1) n))
-
-le_then : (a b c : ℤ) → a ≤ℤ b → b ≤ℤ c → a ≤ℤ c
-le_then a b c h k = omega (arith, ints, h, k)
-
-pub time_is : (q : State) → 1 ≤ total_weight q.runnable → virtual_time q ≡ floor_div (total_moment q.runnable) (total_weight q.runnable)
-time_is q some =
-    ap (λ (b : Bool). cond b q.base (floor_div (total_moment q.runnable) (total_weight q.runnable))) (not_zero (total_weight q.runnable) some)
+not_over : (a c z : ℤ) (n : ℕ) → 1 ≤ n → (a *ℤ pos n) ≤ℤ z → z ≤ℤ (c *ℤ pos n) → a ≤ℤ c
+not_over a c z n some h k = no_more a c z n h (omega (arith, ints, some, k))
 
 time_before : (q : State) (time : ℤ) → 1 ≤ total_weight q.runnable → total_moment q.runnable ≤ℤ (time *ℤ pos (total_weight q.runnable))
     → virtual_time q ≤ℤ time
 time_before q time some h =
-    subst (λ (z : ℤ). z ≤ℤ time) (sym (time_is q some))
-    (no_more (floor_div (total_moment q.runnable) (total_weight q.runnable)) time (total_weight q.runnable) some
-    (le_then _ (total_moment q.runnable) _ (not_above (total_moment q.runnable) (total_weight q.runnable) some) h))
+    subst (λ (z : ℤ). z ≤ℤ time) (sym (mean_is q some))
+    (not_over (floor_div (total_moment q.runnable) (total_weight q.runnable)) time (total_moment q.runnable) (total_weight q.runnable) some
+    (not_above (total_moment q.runnable) (total_weight q.runnable) some) h)
 
 unshifted : (v shift limit : ℤ) → (v +ℤ shift) ≤ℤ limit → v ≤ℤ (limit -ℤ shift)
 unshifted v shift limit h = omega (arith, ints, h)

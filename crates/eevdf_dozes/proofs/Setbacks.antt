@@ -4,7 +4,7 @@ use Rattle.std.specs.Prelude.{◌==◌}
 use Rattle.eevdf_dozes.specs.{Stretches.Watch, Shares.times_in}
 use Rattle.eevdf_dozes.specs.Bounds.{Bounds}
 use Rattle.eevdf_dozes.specs.Ahead.{setback, sum_setbacks}
-use Rattle.eevdf_dozes.proofs.Ticking.{equal}
+use Rattle.eevdf_ops.proofs.MapCounts.{equal}
 
 abbrev pub sum_seen : (ℕ → ℕ) → (ℕ → Bool) → List ℕ → ℕ
 sum_seen cost seen [] = 0

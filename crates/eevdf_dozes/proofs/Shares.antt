@@ -12,7 +12,7 @@ use Rattle.eevdf_dozes.specs.Gains.{turn_charge, ComesNoFurther, IsLevel, sum_we
 use Rattle.eevdf_dozes.specs.Shares.{time_of, lost_by, sum_times, sum_lost, HaveNoShorterTicks, LosesNoMore, lack_of, WhoStaysHasItsShare, IsBeside, numbers, sum_slices, WhoSleepsHasNoMore}
 use Rattle.eevdf_dozes.proofs.Steps.{pick_watched, watched_after}
 use Rattle.eevdf_dozes.proofs.Gains.{nobody_gains, one_gains, together_nobody_gains}
-use Rattle.eevdf_dozes.proofs.Times.{whole_time, little_lost}
+use Rattle.eevdf_dozes.proofs.Times.{whole_time, little_lost, none_lost}
 
 -- ---- several tasks
 one_time : (w c l t C L T : ℕ) → w * c + l ≡ 1024 * t → C + L ≡ 1024 * T → (w * c + C) + (l + L) ≡ 1024 * (t + T)
@@ -30,9 +30,6 @@ sum_times_are w q events e p watched h (t ∷ ts) level =
 
 one_lost : (least most l t L T : ℕ) → least * l ≤ most * t → least * L ≤ most * T → least * (l + L) ≤ most * (t + T)
 one_lost least most l t L T h k = omega (arith, h, k)
-
-none_lost : (least most : ℕ) → least * 0 ≤ most * 0
-none_lost least most = omega arith
 
 sum_little_lost : (w : Watch) (least most : ℕ) (q : State) (events : List Event) (e : Entry) (p : State) → IsWatched w q → IsStretch w 0 q events
     → HaveNoShorterTicks least events → (ts : List ℕ) → AllByRecursion (IsLevel w p e) ts → AllByRecursion (LosesNoMore most w) ts

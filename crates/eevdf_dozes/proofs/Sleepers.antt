@@ -17,11 +17,12 @@ use Rattle.eevdf_fairness.proofs.RestOfQueue.{pick_rest, tick_rest}
 use Rattle.eevdf_dozes.specs.Stretches.{Watch, HaveLevels, picked, ticked}
 use Rattle.eevdf_queue.specs.{Doze.doze, Wake.wake}
 use Rattle.eevdf_dozes.specs.{Calls.Touches, Calls.IsDozing, Calls.DozesIfItCounts, Histories.SleepersDoze}
-use Rattle.eevdf_dozes.proofs.Ticking.{equal, tick_cases, tick_running_stays, other_entry}
+use Rattle.eevdf_dozes.proofs.Ticking.{tick_cases, tick_running_stays, other_entry}
 use Rattle.eevdf_dozes.proofs.{PicksInTime.same_tasks, Standing.AllStand, Standing.StandsStill}
 use Rattle.eevdf_dozes.proofs.Dozing.{dozing_of, dozing_in, doze_is, awake_in, wake_is}
 use Rattle.eevdf_dozes.proofs.Touching.{untouched, doze_touches, wake_touches}
 use Rattle.eevdf_dozes.proofs.Changes.{differs, here_now, none_there, uncounted, nobody_is, stopped_is}
+use Rattle.eevdf_ops.proofs.MapCounts.{equal}
 
 -- ---- one that isn't touched dozes on
 pub dozes_on : (w : Watch) (q r : State) (t : ℕ) (s : Sleeper) → IsDozing w q t s → get r.runnable t ≡ None

@@ -10,6 +10,8 @@ use Rattle.eevdf_dozes.specs.Stretches.{Event, Picks, Ticks, Becomes, Watch, Hav
 use Rattle.eevdf_dozes.proofs.Optional.{one_place, one_entry, there, CameFrom, came_from, IsThen, is_then, standing}
 use Rattle.eevdf_dozes.proofs.Ticking.{IsStill, tick_moves, tick_running_stays, little_charged, tick_keeps, tick_levels, tick_due}
 use Rattle.eevdf_dozes.proofs.PicksInTime.{IsInTime, same_tasks, pick_stands, pick_shift, tick_shift, runner_in_time}
+use Rattle.eevdf_fairness.proofs.Inequalities.{le_then}
+use Rattle.eevdf_fairness.proofs.Growing.{further, little_more}
 
 -- ---- where the task that stays is afterwards: further by a charge, and due no earlier
 pub record Goes (task : ℕ) (q r : State) (e : Entry) (x : ℕ) : Type 0 where
@@ -31,12 +33,6 @@ stands task q r e shift here = record {
   place = ap (λ (z : ℤ). e.v +ℤ z) shift ∙ no_more (e.v +ℤ q.shift);
   later = subst (λ (z : ℤ). (e.d +ℤ q.shift) ≤ℤ (e.d +ℤ z)) (sym shift) (same_time (e.d +ℤ q.shift));
 }
-
-further : (a b c : ℤ) (x y : ℕ) → b ≡ a +ℤ pos x → c ≡ b +ℤ pos y → c ≡ a +ℤ pos (x + y)
-further a b c x y h k = omega (arith, ints, h, k)
-
-le_then : (a b c : ℤ) → a ≤ℤ b → b ≤ℤ c → a ≤ℤ c
-le_then a b c h k = omega (arith, ints, h, k)
 
 pub goes_then : (task : ℕ) (p q r : State) (e : Entry) (x y : ℕ) (g : Goes task p q e x) → Goes task q r g.entry y → Goes task p r e (x + y)
 goes_then task p q r e x y g h = record {
@@ -84,8 +80,8 @@ pub record IsCarried (w : Watch) (ran : ℕ) (q : State) : Type 0 where
   pub runner : (t : ℕ) (place : ℤ) (e : Entry) → w.counts t ≡ true → q.running ≡ Some t → place_of q t ≡ Some place
       → get q.runnable w.stays ≡ Some e → IsLittlePast w ran t (e.d +ℤ q.shift) place
 
-here_then : (o : Option Entry) (e : Entry) → o ≡ Some e → is_some o ≡ true
-here_then o e h = ap is_some h
+pub some_is : (o : Option Entry) (e : Entry) → o ≡ Some e → is_some o ≡ true
+some_is o e h = ap is_some h
 
 -- ---- a pick
 not_past : (w : Watch) (t : ℕ) (due place : ℤ) → place ≤ℤ due → IsLittlePast w 0 t due place
@@ -123,9 +119,6 @@ past_more : (before place due later : ℤ) (by x : ℕ) → before ≤ℤ (due +
     → place ≤ℤ (later +ℤ pos (by + x))
 past_more before place due later by x h moved k = omega (arith, ints, h, moved, k)
 
-pub little_more : (by x w ran ns : ℕ) → by * w ≤ 1024 * ran → x * w ≤ 1024 * ns → (by + x) * w ≤ 1024 * (ran + ns)
-little_more by x w ran ns h k = omega (arith, h, k)
-
 past_by_charge : (w : Watch) (ran ns t x : ℕ) (due later before place : ℤ) → IsLittlePast w ran t due before → place ≡ before +ℤ pos x → due ≤ℤ later
     → x * weight_of (w.nice_of t) ≤ 1024 * ns → IsLittlePast w (ran + ns) t later place
 past_by_charge w ran ns t x due later before place p moved k little = record {
@@ -139,7 +132,7 @@ tick_watched w ns q c =
     let stay = there (get q.runnable w.stays) c.here in
     let gone : Goes w.stays q (ticked q ns) stay.0 (charged_for w.stays q ns) = goes_by_tick w.stays q ns stay.0 stay.1 in
     record {
-      here = here_then (get (tick q ns).1.runnable w.stays) gone.entry gone.here;
+      here = some_is (get (tick q ns).1.runnable w.stays) gone.entry gone.here;
       levels = tick_levels w q ns c.levels;
       due = tick_due q ns c.due;
     }
@@ -174,7 +167,7 @@ change_watched w q r change c =
     let stay = there (get q.runnable w.stays) c.here in
     let gone : Goes w.stays q r stay.0 0 = goes_by_change w q r stay.0 change stay.1 in
     record {
-      here = here_then (get r.runnable w.stays) gone.entry gone.here;
+      here = some_is (get r.runnable w.stays) gone.entry gone.here;
       levels = change.levels c.levels;
       due = change.due c.due;
     }

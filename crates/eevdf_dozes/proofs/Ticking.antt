@@ -1,9 +1,9 @@
 -- What a tick does to the tasks, and to where each of them stands.
 use Rattle.std.proofs.Common.{◌≡◌, ℕ, ◌*◌, ◌≤◌, ◌⊎◌, Bool, true, false, cond, Option, Some, None, refl, sym, ap, ◌∙◌, subst, inl, inr, arith}
 use Rattle.std.specs.Prelude.{ℤ, pos, ◌+ℤ◌, ◌≤ℤ◌, ◌==◌}
-use Rattle.std.specs.{Option.option_map, Ordering.nat_cmp, Ordering.eq_by_cmp, Cmp.nat_cmp_total}
+use Rattle.std.specs.{Option.option_map, Cmp.nat_cmp_total}
 use Rattle.std.specs.FinMap.{get, insert, get-insert}
-use Rattle.std.proofs.{lemmas.Int.ints, lemmas.Bool.Decides.nat_tests}
+use Rattle.std.proofs.{lemmas.Int.ints}
 use Rattle.eevdf_weight.specs.{Weight.weight_of, Charge.charge_of}
 use Rattle.eevdf_queue.specs.{declared.entry.Entry.Entry, declared.answers.TickAnswer.TickAnswer, State.State, Sums.Tasks}
 use Rattle.eevdf_queue.specs.declared.answers.TickAnswer.TheVariants.{Charged, Idle, Range}
@@ -14,6 +14,8 @@ use Rattle.eevdf_queue.proofs.DueTasks.{charged_due}
 use Rattle.eevdf_fairness.proofs.Growing.{get_here, found_at_after, charged_grown, rounded_down}
 use Rattle.eevdf_dozes.specs.Places.{place_by, place_of}
 use Rattle.eevdf_dozes.specs.Stretches.{Watch, HaveLevels, NoneIsPastDue, ticked, charge_by, charged_for}
+use Rattle.eevdf_ops.proofs.MapCounts.{equal}
+use Rattle.eevdf_fairness.proofs.Passing.{other_number}
 
 -- ---- a tick is refused, or there is nobody to charge, or it charges who runs
 module _ (P : TickAnswer × State → Type 0) (q : State) (ns : ℕ) (idle : P (Idle, q)) (range : P (Range, q))
@@ -36,12 +38,6 @@ module _ (P : TickAnswer × State → Type 0) (q : State) (ns : ℕ) (idle : P (
   tick_cases = runner_by q.running refl
 
 -- ---- one charge
-pub equal : (a b : ℕ) → (a == b) ≡ true → a ≡ b
-equal a b h = grind (arith, nat_tests)
-
-other_number : (u x : ℕ) → (u == x) ≡ false → eq_by_cmp nat_cmp x u ≡ false
-other_number u x h = grind (arith, nat_tests)
-
 pub other_entry : (tasks : Tasks) (p t : ℕ) (e : Entry) → (p == t) ≡ false → get (insert tasks p e) t ≡ get tasks t
 other_entry tasks p t e is = get-insert nat_cmp_total tasks p e t ∙ ap (λ (b : Bool). cond b (Some e) (get tasks t)) (other_number p t is)
 
@@ -105,7 +101,7 @@ charged_runs q t ns =
     (λ p e resched runs here. charged_by q t p (charge_by (get q.runnable t) ns) (p == t) refl runs)
 
 -- ---- a charge is little
-no_charge : (w ns : ℕ) → 0 * w ≤ 1024 * ns
+pub no_charge : (w ns : ℕ) → 0 * w ≤ 1024 * ns
 no_charge w ns = omega arith
 
 or_none : (x w ns : ℕ) (b : Bool) → x * w ≤ 1024 * ns → cond b x 0 * w ≤ 1024 * ns

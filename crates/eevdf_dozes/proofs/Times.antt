@@ -9,14 +9,12 @@ use Rattle.eevdf_queue.specs.{declared.entry.Entry.Entry, State.State, Tick.tick
 use Rattle.eevdf_fairness.specs.{Share.most_lost, Tallies.if_charged_to, Tallies.remainder_of}
 use Rattle.eevdf_dozes.specs.Stretches.{Event, Picks, Ticks, Becomes, Watch, HaveLevels, IsWatched, IsStretch, picked, ticked, charge_by, charged_for, charges}
 use Rattle.eevdf_dozes.specs.Shares.{time_of, lost_by, HaveNoShorterTicks, LosesNoMore}
-use Rattle.eevdf_dozes.proofs.Ticking.{equal, tick_cases}
+use Rattle.eevdf_dozes.proofs.Ticking.{tick_cases}
 use Rattle.eevdf_dozes.proofs.Steps.{pick_watched, tick_watched, change_watched}
+use Rattle.eevdf_fairness.proofs.Passing.{whole_charge}
+use Rattle.eevdf_ops.proofs.MapCounts.{equal}
 
 -- ---- one charge
-whole_charge : (ns w : ℕ) → charge_of ns w * w + (ns * 1024) % w ≡ 1024 * ns
-unfolding charge_of
-whole_charge ns w = omega arith
-
 nothing : (w : ℕ) → w * 0 + 0 ≡ 1024 * 0
 nothing w = omega arith
 
@@ -38,7 +36,7 @@ product least most r ns h k =
 no_more_lost : (a b c most : ℕ) → a ≤ b → b ≡ c → c ≤ most → a ≤ most
 no_more_lost a b c most h k l = omega (arith, h, k, l)
 
-none_lost : (least most : ℕ) → least * 0 ≤ most * 0
+pub none_lost : (least most : ℕ) → least * 0 ≤ most * 0
 none_lost least most = omega arith
 
 lost_more : (least most r s i j : ℕ) → least * r ≤ most * i → least * s ≤ most * j → least * (r + s) ≤ most * (i + j)

@@ -1,10 +1,10 @@
 -- With a rebase each day no tick is out of range.
 use Rattle.std.proofs.Common.{◌≡◌, ℕ, suc, ◌==◌, ◌+◌, ◌-◌, ◌*◌, ◌^◌, ◌≤◌, Bool, true, false, ◌&&◌, cond, List, [], ◌∷◌, length, Option, Some, None, refl, sym, ap, ◌∙◌, subst, arith}
-use Rattle.std.specs.Prelude.{ℤ, pos, ◌+ℤ◌, ◌-ℤ◌, ◌*ℤ◌, ◌≤ℤ◌, ◌<ℤ◌, int_le, is_some, unsigned_abs}
+use Rattle.std.specs.Prelude.{ℤ, pos, ◌+ℤ◌, ◌-ℤ◌, ◌*ℤ◌, ◌≤ℤ◌, ◌<ℤ◌, is_some, unsigned_abs}
 use Rattle.std.specs.{List.AllByRecursion, FinMap.get, FinMap.insert, FinMap.empty, FinMap.entries, FinMap.len}
 use Rattle.std.proofs.lemmas.{Int.ints, Int.unsigned_abs-mul, Bool.Decides.nat_tests}
 use Rattle.std.proofs.Math.Nat.{mul-le-mul_left, mul-le-mul_right}
-use Rattle.eevdf_weight.specs.{Limits.is_in_range, Weight.weight_of, Charge.charge_of, Placement.floor_div}
+use Rattle.eevdf_weight.specs.{Weight.weight_of, Charge.charge_of, Placement.floor_div}
 use Rattle.eevdf_weight.proofs.Weighing.{weight_of-least}
 use Rattle.eevdf_queue.specs.{declared.entry.Entry.Entry, declared.answers.TickAnswer.TickAnswer, State.State, Moves.request_of, Moves.fresh_entry, Moves.is_entry_in_range}
 use Rattle.eevdf_queue.specs.declared.answers.TickAnswer.TheVariants.{Charged, Range}
@@ -14,7 +14,7 @@ use Rattle.eevdf_queue.specs.Pick.{IsPick, pick_of, picked_by}
 use Rattle.eevdf_queue.specs.Tick.{aged, is_used_up, charged, tick_to, tick_entry, tick_running}
 use Rattle.eevdf_queue.specs.Rebase.{lowered_entry, lowered_entries, are_entries_in_range, is_shift, can_lower, can_rebase, rebased, rebase}
 use Rattle.eevdf_queue.specs.LoweredQueues.{AnswerAlike, LoweredQueueAnswersAlike, RebasedIsLower}
-use Rattle.eevdf_queue.proofs.{Bounds.charge_of_small, Floors.not_above, Floors.below_next, Scaled.sum_scaled, Scaled.difference_scaled, Scaled.scaled_le}
+use Rattle.eevdf_queue.proofs.{Bounds.charge_of_small, Bounds.within as in_range_is, Floors.not_above, Floors.below_next, Floors.no_more, Scaled.sum_scaled, Scaled.difference_scaled}
 use Rattle.eevdf_fairness.specs.Turns.{Turn, turn_length, AreNoLonger, after_ticks, after_turn, after_turns}
 use Rattle.eevdf_fairness.specs.Fair.{turns_of_others, weight_of_others}
 use Rattle.eevdf_fairness.specs.Days.{total_length, IsDay, after_days, IsNearStart, DaysStayInRange}
@@ -113,14 +113,7 @@ module _ (first : PickIsFirst) (nobody : PickOfNobody) where
 
 -- ---- how near the virtual time each task is
 cancel : (a b : ℤ) (n : ℕ) → 1 ≤ n → (a *ℤ pos n) ≤ℤ (b *ℤ pos n) → a ≤ℤ b
-cancel a b n some h =
-    by (int_le a b) refl
-  where
-    by : (t : Bool) → int_le a b ≡ t → a ≤ℤ b
-    by true is = omega (arith, ints, is)
-    by false is =
-        let over : (b +ℤ pos 1) ≤ℤ a = omega (arith, ints, is) in
-        absurd (omega (arith, ints, h, some, scaled_le (b +ℤ pos 1) a n over, sum_scaled b (pos 1) n))
+cancel a b n some h = no_more a b (b *ℤ pos n) n h (omega (arith, ints, some))
 
 cancel_more : (a b : ℤ) (x n : ℕ) → 1 ≤ n → (a *ℤ pos n) ≤ℤ ((b *ℤ pos n) +ℤ pos x) → a ≤ℤ (b +ℤ pos x)
 cancel_more a b x n some h =
@@ -229,7 +222,7 @@ module _ (q : State) (front : ℤ) (c : IsCalm (2 ^ 59) front q.runnable) (ns : 
   runner_by (Some t) h = entry_by t (get q.runnable t) refl h
 
 -- ---- the rebase
-mean_is : (q : State) → 1 ≤ total_weight q.runnable → virtual_time q ≡ floor_div (total_moment q.runnable) (total_weight q.runnable)
+pub mean_is : (q : State) → 1 ≤ total_weight q.runnable → virtual_time q ≡ floor_div (total_moment q.runnable) (total_weight q.runnable)
 mean_is q some = ap (λ (b : Bool). cond b q.base (floor_div (total_moment q.runnable) (total_weight q.runnable))) (not_zero (total_weight q.runnable) some)
 
 all_in_range : (by : ℤ) (es : List (ℕ × Entry)) → Each (λ e. is_entry_in_range (lowered_entry by e) ≡ true) es → are_entries_in_range (lowered_entries by es) ≡ true
@@ -331,9 +324,6 @@ room_after shift time days room small = omega (arith, ints, room, small)
 
 room_before : (shift : ℤ) (days : ℕ) → unsigned_abs shift ≤ 2 ^ 119 → days ≤ 2 ^ 58 → unsigned_abs shift + (days + 1) * 2 ^ 60 ≤ 2 ^ 120
 room_before shift days small few = omega (arith, small, few)
-
-in_range_is : (z : ℤ) → is_in_range z ≡ true → unsigned_abs z ≤ 2 ^ 60
-in_range_is z is = grind (arith, nat_tests)
 
 -- ---- days
 -- a morning of a day that is followed by so many days, each of which ends with a rebase

@@ -64,10 +64,10 @@ charged_by e ns false is = charged_to e ns e.d (omega (arith, ints)) (λ time h 
 pub charged_grown : (e : Entry) (ns : ℕ) → Grown e ns (charged e ns)
 charged_grown e ns = charged_by e ns (is_used_up e ns) refl
 
-further : (a b c : ℤ) (i j : ℕ) → b ≡ a +ℤ pos i → c ≡ b +ℤ pos j → c ≡ a +ℤ pos (i + j)
+pub further : (a b c : ℤ) (i j : ℕ) → b ≡ a +ℤ pos i → c ≡ b +ℤ pos j → c ≡ a +ℤ pos (i + j)
 further a b c i j h k = omega (arith, ints, h, k)
 
-little_more : (i j w m n : ℕ) → i * w ≤ 1024 * m → j * w ≤ 1024 * n → (i + j) * w ≤ 1024 * (m + n)
+pub little_more : (i j w m n : ℕ) → i * w ≤ 1024 * m → j * w ≤ 1024 * n → (i + j) * w ≤ 1024 * (m + n)
 little_more i j w m n h k = omega (arith, h, k)
 
 pub one_then : (e f g : Entry) (m n : ℕ) → Grown e m f → Grown f n g → Grown e (m + n) g

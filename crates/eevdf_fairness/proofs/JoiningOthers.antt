@@ -12,7 +12,7 @@ use Rattle.eevdf_queue.specs.declared.answers.SetAnswer.TheVariants.{Set}
 use Rattle.eevdf_queue.specs.{Renice.renice, Renice.reniced, Renice.renice_entry, Renice.renice_to, Placing.put, Attributes.set_reniced, SliceChange.set_slice, SliceChange.set_entry_slice}
 use Rattle.eevdf_fairness.specs.{Joining.Joins, JoiningDeeds.HasOthers, OneCpuJoins.JoinsOthers}
 use Rattle.eevdf_fairness.specs.JoiningOthers.{IsBesideOthers, past_placement, WakesAmongOthers, DeedsJoinOthers, StartsAreLevel}
-use Rattle.eevdf_fairness.proofs.{Growing.get_here, Growing.insert_twice, Joining.joiner, Joining.joiner_past, Joining.joined_tasks, JoiningDeeds.reniced_joins, OneCpuJoins.left_absent}
+use Rattle.eevdf_fairness.proofs.{Rules.at_most, Rules.asked_after, Growing.get_here, Growing.insert_twice, Joining.joiner, Joining.joiner_past, Joining.joined_tasks, JoiningDeeds.reniced_joins, OneCpuJoins.left_absent}
 
 -- ---- a task that comes from elsewhere
 no_further : (v : ℤ) → v ≡ v +ℤ pos 0
@@ -129,22 +129,16 @@ deeds_join_others = record {
 }
 
 -- ---- level tasks
-no_more : (a b : ℤ) → a ≡ b → a ≤ℤ b
-no_more a b h = omega (arith, ints, h)
-
-due_after : (d v : ℤ) (c : ℕ) → d ≡ v +ℤ pos c → v ≤ℤ d
-due_after d v c h = omega (arith, ints, h)
-
 pub starts_are_level : StartsAreLevel
 starts_are_level = record {
   fresh = λ v tasks fresh. record {
     time = v;
-    none_past = λ t e here. no_more e.v v (ap (λ (x : Entry). x.v) (fresh t e here));
-    none_due = λ t e here. due_after e.d v (request_of e.nice e.slice) (ap (λ (x : Entry). x.d) (fresh t e here));
+    none_past = λ t e here. at_most e.v v (ap (λ (x : Entry). x.v) (fresh t e here));
+    none_due = λ t e here. asked_after e.d v (request_of e.nice e.slice) (ap (λ (x : Entry). x.d) (fresh t e here));
   };
   alone = λ tasks e only due. record {
     time = e.v;
-    none_past = λ t f here. no_more f.v e.v (ap (λ (x : Entry). x.v) (only t f here));
+    none_past = λ t f here. at_most f.v e.v (ap (λ (x : Entry). x.v) (only t f here));
     none_due = λ t f here. subst (λ (x : Entry). e.v ≤ℤ x.d) (sym (only t f here)) due;
   };
 }

@@ -24,7 +24,7 @@ neither : (b : Bool) → (b || (b || b)) ≡ false → b ≡ false
 neither true h = cc
 neither false h = refl
 
-sums : (a b c d : ℕ) → a ≡ c → b ≡ d → a + b ≡ c + d
+pub sums : (a b c d : ℕ) → a ≡ c → b ≡ d → a + b ≡ c + d
 sums a b c d h k = omega (arith, h, k)
 
 first_none : (a b c : ℕ) → a ≡ 0 → b ≡ c → a + b ≡ c

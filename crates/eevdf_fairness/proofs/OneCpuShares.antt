@@ -21,7 +21,7 @@ use Rattle.eevdf_fairness.proofs.{RestOfQueue.KeepsRest, RestOfQueue.turns_rest}
 use Rattle.eevdf_fairness.proofs.SameTimes as times
 use Rattle.eevdf_fairness.proofs.{OwnChanges.changed, OwnChanges.changed_by, OwnChanges.told_step, OneCpuSteps.all_changed, OneCpuSteps.AreOfSteps, OneCpuSteps.one_change, OneCpuSteps.changed_by_alike}
 use Rattle.eevdf_fairness.proofs.OneCpuSteps.{first_of, rest_of, as_changed, are_of_steps, steps_changed}
-use Rattle.eevdf_fairness.proofs.Lines.{none_charged, none_charged_to, charged_alike, charged_to_alike, shares_told}
+use Rattle.eevdf_fairness.proofs.Lines.{sums, none_charged, none_charged_to, charged_alike, charged_to_alike, shares_told}
 
 -- ---- a measure of ticks that reads of a queue its runnable tasks and who runs
 abbrev Reads : Measure → Type 0
@@ -60,9 +60,6 @@ same_remainder q r ns same = by q.running ∙ ap (λ (o : Option ℕ). remainder
 reads_rounding : Reads (λ q ns. if_charged (tick q ns).0 (remainder q q.running ns))
 reads_rounding q r ns same =
     ap (λ (a : TickAnswer). if_charged a (remainder q q.running ns)) (same_answer q r ns same) ∙ ap (if_charged (tick r ns).0) (same_remainder q r ns same)
-
-sums : (a b c d : ℕ) → a ≡ c → b ≡ d → a + b ≡ c + d
-sums a b c d h k = omega (arith, h, k)
 
 module _ (g : Measure) (reads : Reads g) where
   same_ticks : (q r : State) (turn : Turn) → HaveSameRunnable q r → over_ticks g q turn ≡ over_ticks g r turn

@@ -91,7 +91,7 @@ charged_fields e ns =
     by true = (refl, refl, refl)
     by false = (refl, refl, refl)
 
-whole_charge : (ns w : ℕ) → charge_of ns w * w + (ns * 1024) % w ≡ 1024 * ns
+pub whole_charge : (ns w : ℕ) → charge_of ns w * w + (ns * 1024) % w ≡ 1024 * ns
 unfolding charge_of
 whole_charge ns w = omega arith
 
@@ -116,7 +116,7 @@ lost_by ns w false is h = remainder_below (ns * 1024) w h
 remainder_lost : (ns w : ℕ) → 15 ≤ w → (ns * 1024) % w ≤ most_lost w * 1
 remainder_lost ns w h = lost_by ns w (w == 1024) refl h
 
-other_number : (u x : ℕ) → (u == x) ≡ false → eq_by_cmp nat_cmp x u ≡ false
+pub other_number : (u x : ℕ) → (u == x) ≡ false → eq_by_cmp nat_cmp x u ≡ false
 other_number u x h = grind (arith, nat_tests)
 
 module _ (tasks : Tasks) (p : ℕ) (e : Entry) (ns : ℕ) (here : get tasks p ≡ Some e) where

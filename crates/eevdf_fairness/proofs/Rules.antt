@@ -129,10 +129,10 @@ level a v S W w c h k l =
     let more : w * c ≤ W * c = mul-le-mul_right c l in
     omega (arith, ints, same, k, more)
 
-at_most : (a b : ℤ) → a ≡ b → a ≤ℤ b
+pub at_most : (a b : ℤ) → a ≡ b → a ≤ℤ b
 at_most a b h = omega (arith, ints, h)
 
-asked_after : (d v : ℤ) (c : ℕ) → d ≡ v +ℤ pos c → v ≤ℤ d
+pub asked_after : (d v : ℤ) (c : ℕ) → d ≡ v +ℤ pos c → v ≤ℤ d
 asked_after d v c h = omega (arith, ints, h)
 
 asked_short : (d a v : ℤ) (c : ℕ) → a ≡ v → d ≡ v +ℤ pos c → d ≤ℤ (a +ℤ pos c)

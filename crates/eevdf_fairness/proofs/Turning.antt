@@ -1,6 +1,6 @@
 -- One turn keeps what is asked of the tasks, and so does a task that leaves.
 use Rattle.std.proofs.Common.{◌≡◌, ℕ, ◌+◌, ◌-◌, ◌*◌, ◌≤◌, Bool, true, false, cond, Some, None, refl, sym, ap, ◌∙◌, subst, inl, inr, arith}
-use Rattle.std.specs.Prelude.{ℤ, pos, ◌+ℤ◌, ◌*ℤ◌, ◌≤ℤ◌, int_le, int_lt}
+use Rattle.std.specs.Prelude.{ℤ, pos, ◌+ℤ◌, ◌*ℤ◌, ◌≤ℤ◌, int_le}
 use Rattle.std.specs.{Ordering.nat_cmp, Ordering.eq_by_cmp, Cmp.nat_cmp_total}
 use Rattle.std.specs.FinMap.{get, insert, remove, get-remove}
 use Rattle.std.proofs.{lemmas.Int.ints, lemmas.Nat.le-div}
@@ -8,7 +8,7 @@ use Rattle.eevdf_weight.specs.{Weight.weight_of, Charge.charge_of}
 use Rattle.eevdf_weight.proofs.Weighing.{weight_of-least}
 use Rattle.eevdf_queue.specs.{declared.entry.Entry.Entry, Sums.Tasks, Sums.total_weight, Sums.total_moment}
 use Rattle.eevdf_queue.specs.Pick.{Eligible, IsNoLater, is_eligible}
-use Rattle.eevdf_queue.proofs.Scaled.{sum_scaled, scaled_le}
+use Rattle.eevdf_queue.proofs.{Floors.no_more as at_most, Scaled.sum_scaled}
 use Rattle.eevdf_fairness.proofs.Inequalities.{le_then, no_more}
 use Rattle.eevdf_fairness.proofs.EntrySums.{same_weight, sum_over, sum_insert, weight, moment, weights, moments, no_heavier}
 use Rattle.eevdf_fairness.proofs.{Growing.Grown, Growing.found_after, Growing.found_at_after, Rules.Rule, Rules.IsWithin, Rules.IsLittleAhead, Rules.NoneIsPastBy}
@@ -19,15 +19,8 @@ no_later p u e f (inl h) = omega (arith, ints, h)
 no_later p u e f (inr h) = omega (arith, ints, h.0)
 
 -- one that is eligible isn't past one that isn't
-not_past_one : (a b S : ℤ) (W : ℕ) → int_le (a *ℤ pos W) S ≡ true → int_le (b *ℤ pos W) S ≡ false → a ≤ℤ b
-not_past_one a b S W h k =
-    by (int_lt b a) refl
-  where
-    by : (t : Bool) → int_lt b a ≡ t → a ≤ℤ b
-    by true is =
-        let less : b ≤ℤ a = omega (arith, ints, is) in
-        absurd (omega (arith, ints, h, k, scaled_le b a W less))
-    by false is = omega (arith, ints, is)
+pub not_past_one : (a b S : ℤ) (W : ℕ) → int_le (a *ℤ pos W) S ≡ true → int_le (b *ℤ pos W) S ≡ false → a ≤ℤ b
+not_past_one a b S W h k = at_most a b S W (omega (arith, ints, h)) (omega (arith, ints, k))
 
 picked_by : (tasks : Tasks) (p : ℕ) (e : Entry) (owed : is_eligible tasks e ≡ true) (first : (u : ℕ) (f : Entry) → Eligible tasks u f → IsNoLater p e u f)
     (u : ℕ) (f : Entry) → get tasks u ≡ Some f → (time : ℤ) → (e.d ≤ℤ time → e.v ≤ℤ time) → f.v ≤ℤ time → f.d ≤ℤ time → (b : Bool) → is_eligible tasks f ≡ b → e.v ≤ℤ time
@@ -67,7 +60,7 @@ other_ahead a S T i x y h k = omega (arith, ints, h, k)
 eligible : (v S : ℤ) (W : ℕ) → int_le (v *ℤ pos W) S ≡ true → (v *ℤ pos W) ≤ℤ S
 eligible v S W h = omega (arith, ints, h)
 
-little_charge : (i w m ns : ℕ) → 15 ≤ w → i * w ≤ 1024 * m → m ≤ ns → i ≤ charge_of ns w
+pub little_charge : (i w m ns : ℕ) → 15 ≤ w → i * w ≤ 1024 * m → m ≤ ns → i ≤ charge_of ns w
 unfolding charge_of
 little_charge i w m ns some h l = le-div i (ns * 1024) w (omega arith) (omega arith)
 
