@@ -58,11 +58,18 @@ impl DrawnOperations {
         }
     }
 
+    fn request(&mut self, posts: bool) -> Op {
+        if posts {
+            Op::Post(self.task())
+        } else {
+            Op::Drain
+        }
+    }
+
     /// There are more drains than posts, so that the requests don't pile up.
     fn waking(&mut self, kind: u64, running: Option<TaskId>) -> Op {
         match kind {
-            0..4 => Op::Drain,
-            4..7 => Op::Post(self.task()),
+            0..7 => self.request(kind >= 4),
             7 => running.map_or(Op::Pick, |task| Op::Sleep(task)),
             _ => self.own(kind < 12),
         }
@@ -130,8 +137,7 @@ impl DrawnOperations {
             2 => Op::Sleep(self.task()),
             3 => Op::Renice(running.unwrap_or(self.task()), self.draws.nice()),
             4 => Op::Renice(self.task(), self.draws.nice()),
-            5..8 => Op::Post(self.task()),
-            8..10 => Op::Drain,
+            5..10 => self.request(kind < 8),
             10..12 if 1 < self.cpus => Op::Pull(self.other_cpu(cpu)),
             _ => self.own(kind < 13),
         }

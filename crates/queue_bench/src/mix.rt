@@ -18,26 +18,33 @@ pub enum Mix {
     TickPickRebasePick,
 }
 
+/// The mixes by their words.
+const WORDS: [(&str, Mix); 15] = [
+    ("pick", Mix::Pick),
+    ("tick-pick", Mix::TickPick),
+    ("sleep-pick-wake", Mix::SleepPickWake),
+    ("yield-pick", Mix::YieldPick),
+    ("pull", Mix::Pull),
+    ("tick-sleep-pick-wake", Mix::TickSleepPickWake),
+    ("doze-pick-wake", Mix::DozePickWake),
+    ("tick-doze-pick-wake", Mix::TickDozePickWake),
+    ("renice", Mix::Renice),
+    ("pick-peek", Mix::PickPeek),
+    ("tick-peek-pick", Mix::TickPeekPick),
+    ("tick-pick-timer", Mix::TickPickTimer),
+    ("tick-timer-pick", Mix::TickTimerPick),
+    ("tick-rebase-pick", Mix::TickRebasePick),
+    ("tick-pick-rebase-pick", Mix::TickPickRebasePick),
+];
+
 impl Mix {
     /// The mix that a word names.
     pub fn of(word: &str) -> Option<Mix> {
-        match word {
-            "pick" => Some(Mix::Pick),
-            "tick-pick" => Some(Mix::TickPick),
-            "sleep-pick-wake" => Some(Mix::SleepPickWake),
-            "yield-pick" => Some(Mix::YieldPick),
-            "pull" => Some(Mix::Pull),
-            "tick-sleep-pick-wake" => Some(Mix::TickSleepPickWake),
-            "doze-pick-wake" => Some(Mix::DozePickWake),
-            "tick-doze-pick-wake" => Some(Mix::TickDozePickWake),
-            "renice" => Some(Mix::Renice),
-            "pick-peek" => Some(Mix::PickPeek),
-            "tick-peek-pick" => Some(Mix::TickPeekPick),
-            "tick-pick-timer" => Some(Mix::TickPickTimer),
-            "tick-timer-pick" => Some(Mix::TickTimerPick),
-            "tick-rebase-pick" => Some(Mix::TickRebasePick),
-            "tick-pick-rebase-pick" => Some(Mix::TickPickRebasePick),
-            _ => None,
+        for (name, mix) in WORDS {
+            if name == word {
+                return Some(mix);
+            }
         }
+        None
     }
 }

@@ -1,5 +1,5 @@
 //! `queue_calls` makes calls of a run queue that standard input names, a line each, on two queues and two hands, and
-//! answers each line by a line. `checks/c_library/` compares them with what the library for C answers; [`line`] says
+//! answers each line by a line. `checks/c_library/` compares them with what the library for C answers; [`queues`] says
 //! what stands in one.
 #![tactic(auto)]
 
@@ -7,15 +7,12 @@ mod answers;
 mod fault;
 mod halves;
 mod hand;
-mod line;
 mod moves;
-mod named_call;
 mod one_call;
 mod pulls;
 mod queues;
 mod task_numbers;
 
-use crate::line::Line;
 use crate::queues::Queues;
 use std::alloc::Global;
 use std::io::{self, BufRead, BufReader, BufWriter, Write};
@@ -67,9 +64,9 @@ fn make_call<W: Write>(
     out: &mut W,
 ) -> io::Result<bool> {
     let words: Vec<&str> = text.split_whitespace().collect(alloc)?;
-    match Line::of(&words) {
-        Some(line) => {
-            queues.make(alloc, &line, out)?;
+    match queues.make(alloc, &words, out) {
+        Some(written) => {
+            written?;
             Ok(true)
         }
         None => Ok(false),

@@ -2,7 +2,6 @@
 
 use crate::fault::Fault;
 use crate::hand::Hand;
-use crate::named_call::{Changed, NewTask, Placed};
 use crate::task_numbers::{is_lag, nice_of, slice_of, task_of};
 use eevdf_queue::{
     Parcel, Queue, Refused, ReniceAnswer, SetAnswer, TaskId, TickAnswer, WakeAnswer, YieldAnswer,
@@ -49,11 +48,18 @@ pub fn run(queue: &mut Queue, task: u64) -> Result<u64, Fault> {
     }
 }
 
-pub fn admit(queue: &mut Queue, memory: Memory, new: &NewTask) -> Result<u64, Fault> {
-    let task = task_of(new.task)?;
-    let nice = nice_of(new.nice)?;
-    let slice = slice_of(new.slice)?;
-    if !is_in_range(new.start) {
+pub fn admit(
+    queue: &mut Queue,
+    memory: Memory,
+    task: u64,
+    nice: i64,
+    slice: u64,
+    start: i64,
+) -> Result<u64, Fault> {
+    let task = task_of(task)?;
+    let nice = nice_of(nice)?;
+    let slice = slice_of(slice)?;
+    if !is_in_range(start) {
         return Err(Fault::Invalid);
     }
     if queue.contains(task) {
@@ -62,7 +68,7 @@ pub fn admit(queue: &mut Queue, memory: Memory, new: &NewTask) -> Result<u64, Fa
     if memory.is_refused {
         return Err(Fault::NoMemory);
     }
-    match Parcel::make(memory.alloc, task, nice, slice, new.start) {
+    match Parcel::make(memory.alloc, task, nice, slice, start) {
         Ok(parcel) => admit_parcel(queue, parcel),
         Err(_) => Err(Fault::NoMemory),
     }
@@ -133,18 +139,17 @@ pub fn set_slice(queue: &mut Queue, task: u64, length: u64) -> Result<u64, Fault
     }
 }
 
-pub fn set(queue: &mut Queue, change: &Changed) -> Result<u64, Fault> {
-    let task = task_of(change.task)?;
-    match queue.set(task, nice_of(change.nice)?, slice_of(change.slice)?) {
+pub fn set(queue: &mut Queue, task: u64, nice: i64, slice: u64) -> Result<u64, Fault> {
+    match queue.set(task_of(task)?, nice_of(nice)?, slice_of(slice)?) {
         SetAnswer::Set => Ok(0),
         SetAnswer::NotHere => Err(Fault::Absent),
         SetAnswer::Range => Err(Fault::Range),
     }
 }
 
-pub fn begin(queue: &mut Queue, change: &Changed) -> Result<u64, Fault> {
-    let task = task_of(change.task)?;
-    if queue.begin(task, nice_of(change.nice)?, slice_of(change.slice)?) {
+pub fn begin(queue: &mut Queue, task: u64, nice: i64, slice: u64) -> Result<u64, Fault> {
+    let task = task_of(task)?;
+    if queue.begin(task, nice_of(nice)?, slice_of(slice)?) {
         Ok(0)
     } else if queue.contains(task) {
         Err(Fault::Present)
@@ -254,11 +259,11 @@ pub fn contains(queue: &Queue, task: u64) -> Result<u64, Fault> {
     Ok(u64::from(queue.contains(task_of(task)?)))
 }
 
-pub fn can_place(queue: &Queue, placed: &Placed) -> Result<u64, Fault> {
-    let nice = nice_of(placed.nice)?;
-    let slice = slice_of(placed.slice)?;
-    if !is_lag(placed.lag, nice, slice) {
+pub fn can_place(queue: &Queue, nice: i64, slice: u64, lag: i64) -> Result<u64, Fault> {
+    let nice = nice_of(nice)?;
+    let slice = slice_of(slice)?;
+    if !is_lag(lag, nice, slice) {
         return Err(Fault::Invalid);
     }
-    Ok(u64::from(queue.can_place(nice, slice, placed.lag)))
+    Ok(u64::from(queue.can_place(nice, slice, lag)))
 }
