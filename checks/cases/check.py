@@ -11,8 +11,9 @@ from pathlib import Path
 import made
 
 CASES = Path(__file__).resolve().parent
-sys.path.append(str(CASES.parent))
+sys.path += [str(CASES.parent), str(CASES.parent / "drawn")]
 
+from plain.workbench import COMMANDS, answer  # noqa: E402
 from runner import TOP, Checks, Printed, built, stored  # noqa: E402
 
 SOLO = ("eevdf", "solo")
@@ -90,6 +91,20 @@ def in_version(version, text):
     return re.sub(rb"\nversion = \d\n", b"\nversion = %d\n" % version, text, count=1)
 
 
+def without_times(text):
+    """A report without what stands in front of its lines; a script at its end has no times."""
+    report, script, deeds = text.partition(b"script = [")
+    return re.sub(rb"^ *\d+ (?=[a-z])", b"", report, flags=re.MULTILINE) + script + deeds
+
+
+def check_times(checks, name, command, workload, wanted):
+    """With times the report is the same, and in front of each line stands the time that the plain model has."""
+    words = (*command[1:], "--times")
+    printed = checks.run((command[0], *words), workload)
+    is_right = (printed.out, printed.status) == answer(words, workload) and without_times(printed.whole()) == wanted
+    checks.expect(f"{name} with times", printed.whole(), is_right)
+
+
 def check_pair(checks, path):
     workload, wanted = path.read_bytes(), stored(path.with_suffix(".out")).whole()
     name, command = path.relative_to(TOP), command_of(workload)
@@ -99,6 +114,8 @@ def check_pair(checks, path):
         checks.compare(f"{name} in version {version}", command, in_version(version, workload), in_version(version, wanted))
     if command[0] == "eevdf":
         check_front(checks, name, command, workload)
+    if command[0] == "eevdf" and command[1] in COMMANDS and "--times" not in command:
+        check_times(checks, name, command, workload, wanted)
     if command[0] == "eevdf_orders" and wanted.endswith(DONE):
         check_ordered(checks, name, command, workload)
         check_places(checks, name, wanted)
@@ -109,7 +126,7 @@ def refusal(fault):
 
 
 def is_report(printed):
-    return printed.startswith(b"cpu 0\n") and printed.endswith(DONE)
+    return printed.lstrip(b" 0").startswith(b"cpu 0\n") and printed.endswith(DONE)
 
 
 def is_report_or_refusal(printed):

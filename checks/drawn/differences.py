@@ -65,7 +65,7 @@ def check_put_back(programs, data, text):
 def check_bench(programs, words, data):
     if words[0] == "run":
         return check_run(programs, data)
-    expected = Printed(*answer(words[0], "--history" in words, data))
+    expected = Printed(*answer(words, data))
     return compared(f"eevdf {' '.join(words)}", programs.run("eevdf", words, data), expected)
 
 
@@ -93,7 +93,7 @@ def check(programs, case):
     return check_ordered(programs, case.words, case.data)
 
 
-BENCH_USAGE = Printed(b"usage: eevdf solo|replay|run [--history] [--strict] [FILE]\n", 2)
+BENCH_USAGE = Printed(b"usage: eevdf solo|replay|run [--history] [--times] [--strict] [FILE]\n", 2)
 ORDERS_USAGE = Printed(b"usage: eevdf_orders [--seed N] [FILE]\n", 2)
 OTHER_WORDS = (
     ("eevdf", ()), ("eevdf", ("stop",)), ("eevdf", ("Solo",)), ("eevdf", ("",)), ("eevdf", ("help",)),

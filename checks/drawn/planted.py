@@ -96,7 +96,7 @@ def write_cases(folder, words, is_chosen):
         file = folder / str(at)
         file.write_bytes(case.data)
         file.with_suffix(".args").write_text("".join(f"{word}\n" for word in case.words))
-        printed, _status = answer(case.words[0], "--history" in case.words, case.data)
+        printed, _status = answer(case.words, case.data)
         file.with_suffix(".stdout").write_bytes(printed)
 
 

@@ -3,13 +3,13 @@
 from marked import Case
 
 USAGE = {
-    "eevdf": "usage: eevdf solo|replay|run [--history] [--strict] [FILE]\n",
+    "eevdf": "usage: eevdf solo|replay|run [--history] [--times] [--strict] [FILE]\n",
     "eevdf_orders": "usage: eevdf_orders [--seed N] [FILE]\n",
     "eevdf_timeline": "usage: eevdf_timeline [--replay [--race]|--run] [--html|--perfetto|--table|--stats [--json]] [--rows cpus|tasks]"
                       " [--from NS] [--to NS] [--cpu N,..] [--task N,..] [FILE]\n",
 }
 COMMANDS = "commands are solo, replay, run\n"
-BEHIND = "behind a command stand --history, of solo --strict, and the name of a file\n"
+BEHIND = "behind a command stand --history, --times, of solo --strict, and the name of a file\n"
 STRICT = "--strict stands once, behind solo\n"
 NO_SEED = "--seed takes a whole number below 2^64, and"
 NOT_THERE = "no-such-folder/workload.toml"
@@ -32,6 +32,10 @@ WORDS = (
     words("eevdf", "solo --history a - b", 'one file is read, "a", and "-" is another\n'),
     words("eevdf", f"solo {NOT_THERE} --histories", f'unknown word "--histories"; {BEHIND}'),
     words("eevdf", "solo --history --history", "--history stands once\n"),
+    words("eevdf", "solo --times --history --times", "--times stands once\n"),
+    words("eevdf", "replay --times --times", "--times stands once\n"),
+    words("eevdf", "solo --times=1", f'unknown word "--times=1"; {BEHIND}'),
+    words("eevdf", "--times solo", f'unknown command "--times"; {COMMANDS}'),
     words("eevdf", "solo --strict --history --strict", STRICT),
     words("eevdf", "replay --strict", STRICT),
     words("eevdf", "run --strict --history", STRICT),

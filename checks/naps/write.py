@@ -46,7 +46,7 @@ class Scheduler:
 
     def printed(self, data):
         """What the model prints, and what the program does."""
-        modelled = Printed(*answer("solo", False, data))
+        modelled = Printed(*answer(("solo",), data))
         return modelled, modelled if self.programs is None else self.programs.run("eevdf", ("solo",), data)
 
     def played(self, case, word):

@@ -35,8 +35,12 @@ def text_of(dice, document):
     return with_mark(dice, text_of_document(dice, documents.shuffled(dice, document)))
 
 
+# What stands behind a command, and how often.
+FLAGS = {(): 45, ("--times",): 15, ("--history",): 30, ("--history", "--times"): 10}
+
+
 def command(dice, name):
-    return (name, "--history") if dice.random() < 0.4 else (name,)
+    return (name, *dice.choices(list(FLAGS), FLAGS.values())[0])
 
 
 RUN = ("run", "--history")

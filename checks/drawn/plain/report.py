@@ -1,5 +1,10 @@
 """The report: "Report" of docs/formats.md."""
 
+from plain.times import Clocks
+
+# So many characters a time takes at least.
+TIME_WIDTH = 16
+
 
 def text_of(deed):
     words = list(deed)
@@ -31,25 +36,25 @@ def lines_left(outcome, home):
     return [f"left {task} from {sender}" for sender in senders for task in outcome.left.get((sender, home), [])]
 
 
-def lines_of_cpu(outcome, cpu, schedule):
-    return [f"cpu {cpu}", *schedule, *lines_of_queue(outcome.queues[cpu]), *lines_left(outcome, cpu)]
-
-
-def schedules(outcome):
-    schedules = [[] for _ in outcome.queues]
+def timed_lines(outcome):
+    """For each CPU its lines, each with its time: of its number 0, of each deed that at which it began, and of all else that after all
+    deeds."""
+    clocks = Clocks(len(outcome.queues))
+    lines = [[(0, f"cpu {cpu}")] for cpu in range(len(outcome.queues))]
     for cpu, deed, answer in outcome.lines:
-        schedules[cpu].append(f"{text_of(deed)}: {answer}")
-    return schedules
+        begin, _end, _other = clocks.do(cpu, deed, answer)
+        lines[cpu].append((begin, f"{text_of(deed)}: {answer}"))
+    for cpu, queue in enumerate(outcome.queues):
+        lines[cpu] += [(clocks.cpus[cpu], line) for line in lines_of_queue(queue) + lines_left(outcome, cpu)]
+    return lines
 
 
 def lines_of_history(outcome):
     return ["script = [", *(f'"{cpu} {text_of(deed)}",' for cpu, deed, _ in outcome.lines), "]"]
 
 
-def report(outcome, history):
-    lines = []
-    for cpu, schedule in enumerate(schedules(outcome)):
-        lines += lines_of_cpu(outcome, cpu, schedule)
+def report(outcome, history, times=False):
+    lines = [f"{time:>{TIME_WIDTH}} {line}" if times else line for lines in timed_lines(outcome) for time, line in lines]
     if history:
         lines += lines_of_history(outcome)
     return "".join(line + "\n" for line in lines).encode()

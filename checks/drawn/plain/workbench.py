@@ -32,10 +32,11 @@ def fault_line(fault):
     return f"fault: {fault}\n".encode()
 
 
-def answer(command, history, data):
-    """Standard output and the status."""
+def answer(words, data):
+    """Standard output and the status of a command with its flags."""
     try:
-        return report(COMMANDS[command](read_workload(data)), history), 0
+        outcome = COMMANDS[words[0]](read_workload(data))
+        return report(outcome, "--history" in words, "--times" in words), 0
     except Fault as fault:
         return fault_line(fault), 1
 

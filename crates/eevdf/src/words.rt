@@ -9,6 +9,8 @@ const COMMANDS: [&str; 3] = ["solo", "replay", "run"];
 
 const HISTORY: &str = "--history";
 
+const TIMES: &str = "--times";
+
 const STRICT: &str = "--strict";
 
 /// What is asked for.
@@ -67,11 +69,27 @@ pub(crate) fn unknown_word(alloc: Global, words: &[String], refused: &Refused) -
         if word == STRICT {
             return "--strict stands once, behind solo\n".to_string(alloc).ok();
         }
-        if word != HISTORY {
+        if word != HISTORY && word != TIMES {
             return unknown_behind(alloc, word, &refused.file);
         }
     }
-    "--history stands once\n".to_string(alloc).ok()
+    let twice = if stands_twice(words, HISTORY) {
+        HISTORY
+    } else {
+        TIMES
+    };
+    format!(in alloc; "{twice} stands once\n").ok()
+}
+
+/// Whether a word stands twice behind the command.
+fn stands_twice(words: &[String], flag: &str) -> bool {
+    let mut count = 0u64;
+    for at in 2..words.len() {
+        if words[at].as_str() == flag {
+            count = count.saturating_add(1);
+        }
+    }
+    count > 1
 }
 
 /// A word behind the command that isn't known, or names a second file.
@@ -84,7 +102,7 @@ fn unknown_behind(alloc: Global, word: &str, file: &Option<String>) -> Option<St
         }
         _ => {
             format!(in alloc;
-                "unknown word {told}; behind a command stand --history, of solo --strict, and the name of a file\n"
+                "unknown word {told}; behind a command stand --history, --times, of solo --strict, and the name of a file\n"
             ).ok()
         }
     }

@@ -61,10 +61,10 @@ made (Err (bench.Play p)) (Err f) (inr h) = as_fault (λ a. Err (bench.Play p) �
 made (Err _) (Err f) h = elim h [ ]
 
 -- a workload that is read is answered as the command asks
-pub answered : (c : Command) (bytes : List ℕ) (w : Workload) (r : Result (Vec ℕ Global) BenchFault) → meaning bytes ≡ Ok w → Answers (IsAnswer c.kind w c.history) r → Answers (IsAnswerOf c bytes) r
+pub answered : (c : Command) (bytes : List ℕ) (w : Workload) (r : Result (Vec ℕ Global) BenchFault) → meaning bytes ≡ Ok w → Answers (IsAnswer c.kind w c.form) r → Answers (IsAnswerOf c bytes) r
 answered c bytes w r e h = subst (λ (m : Result Workload LoadFault). Answers (IsAnswerTo m c) r) (sym e) h
 
-pub reported : (c : Command) (bytes : List ℕ) (w : Workload) (r : Result (Vec ℕ Global) BenchFault) → meaning bytes ≡ Ok w → IfOk r (λ t. IsReport c.kind w c.history t.items)
+pub reported : (c : Command) (bytes : List ℕ) (w : Workload) (r : Result (Vec ℕ Global) BenchFault) → meaning bytes ≡ Ok w → IfOk r (λ t. IsReport c.kind w c.form t.items)
     → IfOk r (λ t. IsReportOf c bytes t.items)
 reported c bytes w r e h = IfOk-weaker r _ _ (λ text is. record { workload = w; means = e; report = is }) h
 
@@ -92,7 +92,7 @@ report_written c left input bytes text made held held' cut b t r w =
       report = record {
         workload = r.workload;
         means = sym (meaning_cut all) ∙ ap meaning (sym cut) ∙ ap meaning (sym b) ∙ r.means;
-        report = subst (λ (bs : List ℕ). IsReport c.kind r.workload c.history bs) (sym t) r.report;
+        report = subst (λ (bs : List ℕ). IsReport c.kind r.workload c.form bs) (sym t) r.report;
       };
       written = w;
     })

@@ -18,7 +18,7 @@ use Rattle.eevdf_steps.specs.Orders.{IsWhole, counters_at_start, fault_or, most_
 use Rattle.eevdf_bench.specs.declared.workbench_fault.BenchFault.TheVariants as bench
 use Rattle.eevdf_workload.specs.Meaning.{Workload}
 use Rattle.eevdf_bench.specs.Runs.{IsFault, Makes, order_report, play_refusal, replay_report, state_report, text_unless}
-use Rattle.eevdf_report.specs.TextReport.{report_text}
+use Rattle.eevdf_report.specs.{TextReport.report_text, declared.form.Form.Form}
 
 -- no place of an order, nor its end, is too long
 end_in_time : (u : Option ℕ) → option_map (λ (p : ℕ). Short p) u ≢ Some TooLong
@@ -58,35 +58,35 @@ refused plan order text f (inr e) =
     subst (λ (p : PlayFault). Makes (text_unless (play_fault plan order) text) (Err (play_refusal p))) (sym e.1)
     (memory_made (play_fault plan order) text (in_time plan order e.0))
 
-pub not_replayed : (w : Workload) (history : Bool) (s : Setup) (order : List ℕ) (f : PlayFault) (g : BenchFault) → Some order ≡ w.order → s ≡ w.setup → IsPlay s order (Err f) → g ≡ play_refusal f
-    → Makes (replay_report w history) (Err g)
-not_replayed w history s order f g there same is e =
-    subst (λ (b : BenchFault). Makes (replay_report w history) (Err b)) (sym e)
-    (subst (λ (o : Option (List ℕ)). Makes (order_report w.setup o history) (Err (play_refusal f))) there
-    (subst (λ (t : Setup). Makes (order_report t (Some order) history) (Err (play_refusal f))) same
+pub not_replayed : (w : Workload) (form : Form) (s : Setup) (order : List ℕ) (f : PlayFault) (g : BenchFault) → Some order ≡ w.order → s ≡ w.setup → IsPlay s order (Err f) → g ≡ play_refusal f
+    → Makes (replay_report w form) (Err g)
+not_replayed w form s order f g there same is e =
+    subst (λ (b : BenchFault). Makes (replay_report w form) (Err b)) (sym e)
+    (subst (λ (o : Option (List ℕ)). Makes (order_report w.setup o form) (Err (play_refusal f))) there
+    (subst (λ (t : Setup). Makes (order_report t (Some order) form) (Err (play_refusal f))) same
     (refused (plan_of s) order _ f is)))
 
 -- the report of an outcome is that of the state that the order leaves
-reported : (s : Setup) (order : List ℕ) (history : Bool) (o : Outcome) → IsOutcome (record { plan = plan_of s; state = micro s order }) o
-    → report_text o.lines (machine_of o.queues) o.left history ≡ state_report s (micro s order) history
-reported s order history o is =
-    ap (λ (ls : List Line). report_text ls (machine_of o.queues) o.left history) is.lines
-    ∙ ap (λ (m : Machine). report_text (micro s order).lines m o.left history) is.machine
-    ∙ ap (λ (l : List (List ℕ)). report_text (micro s order).lines (micro s order).work.machine l history) (all_left _ o is)
+reported : (s : Setup) (order : List ℕ) (form : Form) (o : Outcome) → IsOutcome (record { plan = plan_of s; state = micro s order }) o
+    → report_text o.lines (machine_of o.queues) o.left form ≡ state_report s (micro s order) form
+reported s order form o is =
+    ap (λ (ls : List Line). report_text ls (machine_of o.queues) o.left form) is.lines
+    ∙ ap (λ (m : Machine). report_text (micro s order).lines m o.left form) is.machine
+    ∙ ap (λ (l : List (List ℕ)). report_text (micro s order).lines (micro s order).work.machine l form) (all_left _ o is)
 
 -- and answers an order that is played
-played : (s : Setup) (order text : List ℕ) (history : Bool) (o : Outcome) → IsPlay s order (Ok o) → text ≡ report_text o.lines (machine_of o.queues) o.left history
-    → order_report s (Some order) history ≡ Ok text
-played s order text history o is t =
-    ap (λ (f : Option PlayFault). text_unless f (state_report s (micro s order) history)) is.0
-    ∙ ap (λ (bs : List ℕ). Ok bs) (sym (t ∙ reported s order history o is.1))
+played : (s : Setup) (order text : List ℕ) (form : Form) (o : Outcome) → IsPlay s order (Ok o) → text ≡ report_text o.lines (machine_of o.queues) o.left form
+    → order_report s (Some order) form ≡ Ok text
+played s order text form o is t =
+    ap (λ (f : Option PlayFault). text_unless f (state_report s (micro s order) form)) is.0
+    ∙ ap (λ (bs : List ℕ). Ok bs) (sym (t ∙ reported s order form o is.1))
 
-pub replayed : (w : Workload) (history : Bool) (s : Setup) (order text : List ℕ) (o : Outcome) → Some order ≡ w.order → s ≡ w.setup → IsPlay s order (Ok o)
-    → text ≡ report_text o.lines (machine_of o.queues) o.left history → replay_report w history ≡ Ok text
-replayed w history s order text o there same is t =
-    ap (λ (p : Option (List ℕ)). order_report w.setup p history) (sym there)
-    ∙ ap (λ (u : Setup). order_report u (Some order) history) (sym same)
-    ∙ played s order text history o is t
+pub replayed : (w : Workload) (form : Form) (s : Setup) (order text : List ℕ) (o : Outcome) → Some order ≡ w.order → s ≡ w.setup → IsPlay s order (Ok o)
+    → text ≡ report_text o.lines (machine_of o.queues) o.left form → replay_report w form ≡ Ok text
+replayed w form s order text o there same is t =
+    ap (λ (p : Option (List ℕ)). order_report w.setup p form) (sym there)
+    ∙ ap (λ (u : Setup). order_report u (Some order) form) (sym same)
+    ∙ played s order text form o is t
 
 -- a workload's order is played, under whichever name of its setup
 pub is_played : (w : Workload) (s : Setup) (order : List ℕ) (o : Outcome) → Some order ≡ w.order → s ≡ w.setup → IsWhole (plan_of s) (counters_at_start (plan_of s)) order
@@ -100,10 +100,10 @@ is_played w s order o there same whole deeds follows = record {
 }
 
 -- and is that of one thread, of what the order commits
-pub played_report : (w : Workload) (history : Bool) (s : Setup) (order text : List ℕ) (o : Outcome) → Some order ≡ w.order → s ≡ w.setup
+pub played_report : (w : Workload) (form : Form) (s : Setup) (order text : List ℕ) (o : Outcome) → Some order ≡ w.order → s ≡ w.setup
     → IsWhole (plan_of s) (counters_at_start (plan_of s)) order → IsOneThread (homes_of s) (start s) (deeds_committed s order) o → list_all (allows s) (deeds_of o.lines) ≡ true
-    → FollowsPrograms s o → IsPlaced (homes_of s) (machine_of o.queues) → text ≡ report_text o.lines (machine_of o.queues) o.left history → IsReport Replay w history text
-played_report w history s order text o there same whole one allowed follows placed t = record {
+    → FollowsPrograms s o → IsPlaced (homes_of s) (machine_of o.queues) → text ≡ report_text o.lines (machine_of o.queues) o.left form → IsReport Replay w form text
+played_report w form s order text o there same whole one allowed follows placed t = record {
   outcome = o;
   one_thread = subst (λ (u : Setup). IsOneThread (homes_of u) (start u) (deeds_of o.lines) o) same (own_deeds (homes_of s) (start s) (deeds_committed s order) o one);
   allowed = subst (λ (u : Setup). list_all (allows u) (deeds_of o.lines) ≡ true) same allowed;

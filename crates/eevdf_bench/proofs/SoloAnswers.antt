@@ -7,7 +7,7 @@ use Rattle.eevdf_ops.specs.Setup.{Setup, allows, homes_of}
 use Rattle.eevdf_ops.specs.Whole.{lines_of, machine_after, whole}
 use Rattle.eevdf_bench.specs.{declared.command.Kind.TheVariants.Solo, Reports.IsReport}
 use Rattle.eevdf_workload.specs.Meaning.{Workload}
-use Rattle.eevdf_report.specs.TextReport.{report_text}
+use Rattle.eevdf_report.specs.{TextReport.report_text, declared.form.Form.Form}
 use Rattle.eevdf_bench.specs.RefusedDeeds.{first_refused, refused_in, refused_of}
 use Rattle.eevdf_bench.specs.declared.refused_deeds.RefusedDeed.{RefusedDeed}
 use Rattle.eevdf_bench.proofs.OwnDeeds.{own_deeds}
@@ -24,10 +24,10 @@ done homes m ds o lines machine = record {
   machine = machine;
 }
 
-pub script_report : (w : Workload) (history : Bool) (s : Setup) (ds : List Deed) (text : List ℕ) (o : Outcome) → Some ds ≡ w.script → s ≡ w.setup → list_all (allows w.setup) ds ≡ true
+pub script_report : (w : Workload) (form : Form) (s : Setup) (ds : List Deed) (text : List ℕ) (o : Outcome) → Some ds ≡ w.script → s ≡ w.setup → list_all (allows w.setup) ds ≡ true
     → o.lines ≡ lines_of (homes_of s) (start s) ds → machine_of o.queues ≡ machine_after (homes_of s) (start s) ds → IsPlaced (homes_of s) (machine_of o.queues)
-    → text ≡ report_text o.lines (machine_of o.queues) o.left history → IsReport Solo w history text
-script_report w history s ds text o there same allowed lines machine placed t =
+    → text ≡ report_text o.lines (machine_of o.queues) o.left form → IsReport Solo w form text
+script_report w form s ds text o there same allowed lines machine placed t =
     let one : IsOneThread (homes_of s) (start s) ds o = done (homes_of s) (start s) ds o lines machine in record {
       outcome = o;
       one_thread = subst (λ (u : Setup). IsOneThread (homes_of u) (start u) (deeds_of o.lines) o) same (own_deeds (homes_of s) (start s) ds o one);

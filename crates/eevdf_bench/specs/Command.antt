@@ -1,5 +1,5 @@
 -- The command for which the program's words ask, by `clap`'s own definition of a parse.
-use Rattle.std.specs.Prelude.{◌≡◌, Bool, true, false, Option, Some, None, List, if◌then◌else◌, ◌++◌, codes, option_map, option_and_then}
+use Rattle.std.specs.Prelude.{◌≡◌, Bool, true, false, Option, Some, None, List, [], if◌then◌else◌, ◌++◌, codes, option_map, option_and_then}
 use Rattle.std.specs.{Str.bytes_eq, Option.option_map_or}
 use Rattle.clap.specs.Words.{App, Row, Rule, Text, fault_of, first_of, new_app, new_rule, subcommand_of, with_rule, with_subcommand}
 use Rattle.clap.specs.{Walk.is_empty, Simple.on_top, declared.builder.action.ArgAction.TheVariants.SetTrue}
@@ -15,13 +15,13 @@ word_of Solo = codes "solo"
 word_of Replay = codes "replay"
 word_of Run = codes "run"
 
--- the flag that each subcommand has
-abbrev pub history_rule : Rule
-history_rule = record (new_rule (codes "history")) { long = Some (codes "history"); action = Some SetTrue }
+-- a flag that takes no value
+abbrev pub flag_rule : Text → Rule
+flag_rule name = record (new_rule name) { long = Some name; action = Some SetTrue }
 
--- a subcommand with its flag
+-- a subcommand with its flags
 abbrev pub subcommand : Text → App
-subcommand name = with_rule (new_app name) history_rule
+subcommand name = with_rule (with_rule (new_app name) (flag_rule (codes "history"))) (flag_rule (codes "times"))
 
 -- the program without its subcommands: one of them must be there, and there is no flag or subcommand for help
 abbrev pub bare_program : App
@@ -48,18 +48,19 @@ subcommand_named words = option_map (λ p. p.0) (subcommand_of program words)
 abbrev pub is_set : Option Text → Bool
 is_set held = option_map_or (λ text. bytes_eq text (codes "true")) held false
 
--- among the matches of a subcommand its flag is given
-abbrev pub history_in : Option (List Row) → Bool
-history_in matches = is_set (option_and_then (first_of (codes "history")) matches)
+-- among the matches of a subcommand a flag of it is given
+abbrev pub flag_in : Text → Option (List Row) → Bool
+flag_in name matches = is_set (option_and_then (first_of name) matches)
 
--- the subcommand's flag is given
-abbrev pub has_history : List Text → Bool
-has_history words = history_in (option_map (λ p. p.1) (subcommand_of program words))
+-- a flag of the subcommand is given
+abbrev pub has_flag : Text → List Text → Bool
+has_flag name words = flag_in name (option_map (λ p. p.1) (subcommand_of program words))
 
--- the words are taken, their subcommand is the command's kind, and its flag asks for the history
+-- the words are taken, their subcommand is the command's kind, and its flags ask for the form
 abbrev pub IsAskedBy : List Text → Command → Type 0
 IsAskedBy words c = (is_taken words ≡ true)
-    × (subcommand_named words ≡ Some (word_of c.kind)) × (c.history ≡ has_history words)
+    × (subcommand_named words ≡ Some (word_of c.kind))
+    × (c.form.history ≡ has_flag (codes "history") words) × (c.form.times ≡ has_flag (codes "times") words)
 
 -- the kind that a word names
 abbrev pub kind_named : Text → Option Kind
@@ -72,9 +73,13 @@ abbrev pub word_fault : ErrorKind → WordFault
 word_fault OutOfMemory = Memory
 word_fault _ = Words
 
+-- a flag behind the command, where it is given
+abbrev pub flag_text : Bool → Text → Text
+flag_text given flag = if given then flag else []
+
 -- words that ask for a command
 abbrev pub command_text : Command → Text
-command_text c = if c.history then word_of c.kind ++ codes " --history" else word_of c.kind
+command_text c = word_of c.kind ++ flag_text c.form.history (codes " --history") ++ flag_text c.form.times (codes " --times")
 
 abbrev pub word_fault_text : WordFault → Text
 word_fault_text Words = codes "not a command line of this program"

@@ -7,7 +7,7 @@ use Rattle.eevdf_steps.specs.{Plan.plan_of, Orders.IsWhole, Orders.counters_at_s
 use Rattle.eevdf_bench.specs.{declared.command.Command.Command, declared.command.Kind.Kind}
 use Rattle.eevdf_bench.specs.declared.command.Kind.TheVariants.{Solo, Replay, Run}
 use Rattle.eevdf_workload.specs.Meaning.{Workload, meaning}
-use Rattle.eevdf_report.specs.TextReport.{report_text}
+use Rattle.eevdf_report.specs.{TextReport.report_text, declared.form.Form.Form}
 
 -- the workload's order is lawful and complete, the deeds of the lines are those that it commits, and they follow the programs
 pub record IsPlayed (w : Workload) (o : Outcome) : Type 0 where
@@ -31,19 +31,19 @@ DoesWorkload Run w o = IsRun w o
 
 -- the text is the report of an outcome: that of one thread that does the deeds of its lines one after the other, each as a whole
 -- operation that the setup allows; after them each task stands in one place, and the lines do what the workload asks for
-pub record IsReport (kind : Kind) (w : Workload) (history : Bool) (text : List ℕ) : Type 0 where
+pub record IsReport (kind : Kind) (w : Workload) (form : Form) (text : List ℕ) : Type 0 where
   pub outcome : Outcome
   pub one_thread : IsOneThread (homes_of w.setup) (start w.setup) (deeds_of outcome.lines) outcome
   pub allowed : list_all (allows w.setup) (deeds_of outcome.lines) ≡ true
   pub places : IsPlaced (homes_of w.setup) (machine_of outcome.queues)
   pub does : DoesWorkload kind w outcome
-  pub says : text ≡ report_text outcome.lines (machine_of outcome.queues) outcome.left history
+  pub says : text ≡ report_text outcome.lines (machine_of outcome.queues) outcome.left form
 
 -- the same of the bytes of a workload
 pub record IsReportOf (c : Command) (input text : List ℕ) : Type 0 where
   pub workload : Workload
   pub means : meaning input ≡ Ok workload
-  pub report : IsReport c.kind workload c.history text
+  pub report : IsReport c.kind workload c.form text
 
 -- and the text was written after what was there
 pub record WritesReport (c : Command) (input : List ℕ) (held held' : Option (List ℕ)) : Type 0 where

@@ -15,7 +15,7 @@ use Rattle.eevdf_workload.specs.{declared.load_fault.Key.TheVariants.Orders, dec
 use Rattle.eevdf_workload.specs.{declared.load_fault.LoadFault.LoadFault, Meaning.Workload, Meaning.meaning}
 use Rattle.eevdf_workload.specs.declared.load_fault.LoadFault.TheVariants.{Missing, Memory as NoMemory}
 use Rattle.eevdf_bench.specs.declared.workbench_fault.BenchFault.TheVariants.{Load, Play, Run as NotRun, Read, Write, Memory}
-use Rattle.eevdf_report.specs.TextReport.{report_text}
+use Rattle.eevdf_report.specs.{TextReport.report_text, declared.form.Form.Form}
 
 -- a text, or why there is none
 abbrev pub TextOrFault : Type 0
@@ -24,23 +24,23 @@ TextOrFault = Result (List ℕ) BenchFault
 -- ---- what `solo` answers
 
 -- the report of the history of a list of deeds, of which no request is left
-abbrev pub history_report : Setup → List Deed → Bool → List ℕ
-history_report s deeds history =
-    report_text (lines_of (homes_of s) (start s) deeds) (machine_after (homes_of s) (start s) deeds) (replicate (cpus_of s * cpus_of s) []) history
+abbrev pub history_report : Setup → List Deed → Form → List ℕ
+history_report s deeds form =
+    report_text (lines_of (homes_of s) (start s) deeds) (machine_after (homes_of s) (start s) deeds) (replicate (cpus_of s * cpus_of s) []) form
 
 -- the same of a script, which must be there
-abbrev pub script_report : Setup → Option (List Deed) → Bool → TextOrFault
-script_report s (Some deeds) history = Ok (history_report s deeds history)
-script_report s None history = Err (Load (Missing Scripts))
+abbrev pub script_report : Setup → Option (List Deed) → Form → TextOrFault
+script_report s (Some deeds) form = Ok (history_report s deeds form)
+script_report s None form = Err (Load (Missing Scripts))
 
-abbrev pub solo_report : Workload → Bool → TextOrFault
-solo_report w history = script_report w.setup w.script history
+abbrev pub solo_report : Workload → Form → TextOrFault
+solo_report w form = script_report w.setup w.script form
 
 -- ---- what `replay` answers
 
 -- the report of the state that the callers' steps have come to
-abbrev pub state_report : Setup → MicroState → Bool → List ℕ
-state_report s m history = report_text m.lines m.work.machine (left_lists (plan_of s) m.progress) history
+abbrev pub state_report : Setup → MicroState → Form → List ℕ
+state_report s m form = report_text m.lines m.work.machine (left_lists (plan_of s) m.progress) form
 
 -- the text, or the fault where there is one
 abbrev pub text_unless : Option PlayFault → List ℕ → TextOrFault
@@ -48,25 +48,25 @@ text_unless None text = Ok text
 text_unless (Some f) text = Err (Play f)
 
 -- the report of the state that an order leaves, which must be there
-abbrev pub order_report : Setup → Option (List ℕ) → Bool → TextOrFault
-order_report s (Some order) history = text_unless (play_fault (plan_of s) order) (state_report s (micro s order) history)
-order_report s None history = Err (Load (Missing Orders))
+abbrev pub order_report : Setup → Option (List ℕ) → Form → TextOrFault
+order_report s (Some order) form = text_unless (play_fault (plan_of s) order) (state_report s (micro s order) form)
+order_report s None form = Err (Load (Missing Orders))
 
-abbrev pub replay_report : Workload → Bool → TextOrFault
-replay_report w history = order_report w.setup w.order history
+abbrev pub replay_report : Workload → Form → TextOrFault
+replay_report w form = order_report w.setup w.order form
 
 -- ---- what a command answers
 
 -- `solo` and `replay` have one answer; `run` may give the report of any history of the programs, and no other fault than that a thread wasn't started
-abbrev pub IsAnswer : Kind → Workload → Bool → TextOrFault → Type 0
-IsAnswer Solo w history answer = solo_report w history ≡ answer
-IsAnswer Replay w history answer = replay_report w history ≡ answer
-IsAnswer Run w history (Ok text) = IsReport Run w history text
-IsAnswer Run w history (Err f) = f ≡ NotRun Start
+abbrev pub IsAnswer : Kind → Workload → Form → TextOrFault → Type 0
+IsAnswer Solo w form answer = solo_report w form ≡ answer
+IsAnswer Replay w form answer = replay_report w form ≡ answer
+IsAnswer Run w form (Ok text) = IsReport Run w form text
+IsAnswer Run w form (Err f) = f ≡ NotRun Start
 
 -- a workload that is refused has its fault for the only answer
 abbrev pub IsAnswerTo : Result Workload LoadFault → Command → TextOrFault → Type 0
-IsAnswerTo (Ok w) c answer = IsAnswer c.kind w c.history answer
+IsAnswerTo (Ok w) c answer = IsAnswer c.kind w c.form answer
 IsAnswerTo (Err f) c answer = Err (Load f) ≡ answer
 
 -- for the bytes of a workload

@@ -1,13 +1,14 @@
 //! The command for which the program's words ask.
 
 ghost use Rattle.std.specs.Prelude.{◌≡◌, IfOk, Err, Some, map, option_map, option_and_then, true, false, is_some};
-ghost use Rattle.clap.specs.Words.{app_of, kind_of, subcommand_name_of, subcommand_rows_of, with_subcommand};
+ghost use Rattle.clap.specs.Words.{app_of, kind_of, subcommand_name_of, subcommand_of, subcommand_rows_of, with_subcommand};
 ghost use Rattle.clap.specs.declared.builder.command.Command.TheViews.{out-Command as fields_of};
 ghost use Rattle.eevdf_bench.specs.Command as spec;
 ghost use Rattle.eevdf_bench.specs.declared.command.WordFault.TheVariants.{Memory};
 
 use clap::error::ErrorKind;
 use clap::{Arg, ArgAction, ArgMatches, Error};
+use eevdf_report::Form;
 use std::alloc::{AllocError, Global};
 use std::convert::AsStr;
 use std::fmt;
@@ -48,8 +49,8 @@ impl fmt::Display for Kind {
 #[derive(Clone, Copy, PartialEq, Eq, Debug)]
 pub struct Command {
     pub kind: Kind,
-    /// Whether the order of commits is to be printed too.
-    pub history: bool,
+    /// In which form the report is to be printed.
+    pub form: Form,
 }
 
 /// Words that ask for this, as `solo --history`.
@@ -57,12 +58,17 @@ impl fmt::Display for Command {
     ghost output = { λ command. Some (spec.command_text command) };
 
     fn fmt<W: fmt::Write>(&self, f: &mut fmt::Formatter<W>) -> fmt::Result {
-        if self.history {
-            write!(f, "{} --history", self.kind)
-        } else {
-            write!(f, "{}", self.kind)
-        }
+        f.write_str(self.kind.word())?;
+        f.write_str(flag_text(self.form.history, " --history"))?;
+        f.write_str(flag_text(self.form.times, " --times"))
     }
+}
+
+// A flag behind the command, where it is given.
+fn flag_text(given: bool, flag: &'static str) -> &'static str
+    ensures { result.now ≡ spec.flag_text given flag.now }
+{
+    if given { flag } else { "" }
 }
 
 /// Why the words gave no command.
@@ -114,9 +120,13 @@ pub fn command_of<S: AsStr>(alloc: Global, words: &[S]) -> Result<Command, WordF
 {
     let matches = matches_of(alloc, words)?;
     let kind = matches.subcommand_name().and_then(kind_named);
-    let history = has_history(&matches);
+    let history = has_flag(&matches, "history");
+    let times = has_flag(&matches, "times");
     match kind {
-        Some(kind) => Ok(Command { kind, history }),
+        Some(kind) => Ok(Command {
+            kind,
+            form: Form { history, times },
+        }),
         None => Err(WordFault::Words),
     }
 }
@@ -125,8 +135,7 @@ fn matches_of<'a, S: AsStr>(alloc: Global, words: &'a [S]) -> Result<ArgMatches<
     ensures ok { IfOk result (λ m. (spec.is_taken (map S.text words.entry.now) ≡ true)
         × (is_some (option_and_then spec.kind_named (subcommand_name_of m)) ≡ true)
         × (spec.subcommand_named (map S.text words.entry.now) ≡ subcommand_name_of m)
-        × (spec.has_history (map S.text words.entry.now)
-        ≡ spec.history_in (option_map (λ p. p.1) (subcommand_rows_of m)))) }
+        × (subcommand_rows_of m ≡ subcommand_of spec.program (map S.text words.entry.now))) }
     ensures refused { result ≡ Err WordFault.Words
         → spec.is_taken (map S.text words.entry.now) ≡ false }
 {
@@ -170,7 +179,7 @@ fn with_command<'a>(
     program.subcommand(command)
 }
 
-// A subcommand with its flag.
+// A subcommand with its flags.
 fn subcommand<'a>(alloc: Global, name: &'a str) -> Result<clap::Command<'a>, AllocError>
     ensures model { IfOk result (λ c. app_of c ≡ spec.subcommand name.entry.now) }
     ensures local { IfOk result (λ c. (fields_of c).has_globals ≡ false) }
@@ -178,15 +187,19 @@ fn subcommand<'a>(alloc: Global, name: &'a str) -> Result<clap::Command<'a>, All
     let history = Arg::new(alloc, "history")
         .long("history")
         .action(ArgAction::SetTrue);
-    clap::Command::new(alloc, name).arg(history)
+    let times = Arg::new(alloc, "times")
+        .long("times")
+        .action(ArgAction::SetTrue);
+    let with_history = clap::Command::new(alloc, name).arg(history)?;
+    with_history.arg(times)
 }
 
-// Whether the subcommand's flag was given. `clap` holds a flag as the text `true` or `false`.
-fn has_history(matches: &ArgMatches<'_>) -> bool
-    ensures { result ≡ spec.history_in (option_map (λ p. p.1) (subcommand_rows_of matches.now)) }
+// Whether a flag of the subcommand was given. `clap` holds a flag as the text `true` or `false`.
+fn has_flag(matches: &ArgMatches<'_>, name: &'static str) -> bool
+    ensures { result ≡ spec.flag_in name.now (option_map (λ p. p.1) (subcommand_rows_of matches.now)) }
 {
     match matches.subcommand() {
-        Some((_, found)) => found.get_str("history") == Some("true"),
+        Some((_, found)) => found.get_str(name) == Some("true"),
         None => false,
     }
 }

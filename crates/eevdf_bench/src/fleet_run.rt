@@ -6,7 +6,7 @@ ghost use Rattle.eevdf_bench.specs.Reports.{IsReport};
 use crate::command::Kind;
 use crate::workbench_fault::BenchFault;
 use eevdf_fleet::{OpenGate, RunFault, run_all};
-use eevdf_report::report;
+use eevdf_report::{Form, report};
 use eevdf_workload::Workload;
 use std::alloc::Global;
 use std::sync::Wait;
@@ -19,13 +19,13 @@ pub fn run_text<R: Threads + Wait + Sync>(
     rt: &R,
     alloc: Global,
     workload: &Workload,
-    history: bool,
+    form: Form,
 ) -> Result<Vec<u8>, BenchFault>
-    ensures report { IfOk result (λ t. IsReport Kind.Run workload.now history t.items) }
+    ensures report { IfOk result (λ t. IsReport Kind.Run workload.now form t.items) }
     ensures refused { IfErr result (λ f.
         (f ≡ BenchFault.Run RunFault.Start) ⊎ (f ≡ BenchFault.Memory)) }
 {
     let outcome = run_all(rt, alloc, workload.setup(), &OpenGate)?;
-    let text = report(alloc, &outcome, history)?;
+    let text = report(alloc, &outcome, form)?;
     Ok(text)
 }

@@ -26,7 +26,7 @@ mod workload_text;
 
 pub use byte_streams::{read_input, write_text};
 pub use command::{Command, Kind, WordFault, command_of};
-pub use eevdf_report::report;
+pub use eevdf_report::{Form, report};
 pub use eevdf_workload::{Key, LoadFault, Version, Workload, read_workload};
 pub use fault_texts::{fault_text, status_of};
 pub use fleet_run::run_text;

@@ -6,7 +6,7 @@ ghost use Rattle.eevdf_bench.specs.Runs.{Makes, replay_report};
 
 use crate::command::Kind;
 use crate::workbench_fault::BenchFault;
-use eevdf_report::report;
+use eevdf_report::{Form, report};
 use eevdf_steps::play;
 use eevdf_workload::{Key, LoadFault, Workload};
 use std::alloc::Global;
@@ -14,9 +14,9 @@ use std::alloc::Global;
 /// The report of what the programs' steps come to in the workload's order, with the requests that are left. A
 /// workload without an order is refused before anything else is done (`Missing`), and then an order that can't be
 /// played to its end, with its fault; running out of memory is the only other refusal.
-pub fn replay_text(alloc: Global, workload: &Workload, history: bool) -> Result<Vec<u8>, BenchFault>
-    ensures report { Makes (replay_report workload.now history) result }
-    ensures one_thread { IfOk result (λ t. IsReport Kind.Replay workload.now history t.items) }
+pub fn replay_text(alloc: Global, workload: &Workload, form: Form) -> Result<Vec<u8>, BenchFault>
+    ensures report { Makes (replay_report workload.now form) result }
+    ensures one_thread { IfOk result (λ t. IsReport Kind.Replay workload.now form t.items) }
 {
     let Some(order) = workload.order() else {
         return Err(BenchFault::Load(LoadFault::Missing { key: Key::Orders }));
@@ -25,6 +25,6 @@ pub fn replay_text(alloc: Global, workload: &Workload, history: bool) -> Result<
         Ok(outcome) => outcome,
         Err(fault) => return Err(BenchFault::from(fault)),
     };
-    let text = report(alloc, &outcome, history)?;
+    let text = report(alloc, &outcome, form)?;
     Ok(text)
 }

@@ -147,15 +147,15 @@ fn text_of<T: Threads + Wait + Sync>(
     command: Command,
     refused: &mut RefusedDeeds,
 ) -> Result<Vec<u8>, BenchFault>
-    ensures answer { Answers (IsAnswer command.kind workload.now command.history) result }
+    ensures answer { Answers (IsAnswer command.kind workload.now command.form) result }
     ensures thread { result ≡ Err (BenchFault.Run RunFault.Start) → command.kind ≡ Kind.Run }
     ensures one_thread { IfOk result (λ t.
-        IsReport command.kind workload.now command.history t.items) }
+        IsReport command.kind workload.now command.form t.items) }
     ensures noted { OnOk result (command.kind ≡ Kind.Solo → refused.new.first ≡ refused_of workload.now) }
 {
     match command.kind {
-        Kind::Solo => noted_solo_text(alloc, workload, command.history, refused),
-        Kind::Replay => replay_text(alloc, workload, command.history),
-        Kind::Run => run_text(rt, alloc, workload, command.history),
+        Kind::Solo => noted_solo_text(alloc, workload, command.form, refused),
+        Kind::Replay => replay_text(alloc, workload, command.form),
+        Kind::Run => run_text(rt, alloc, workload, command.form),
     }
 }

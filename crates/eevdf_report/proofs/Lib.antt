@@ -1,3 +1,4 @@
 mod ByNumber
 mod FoundEntries
 mod ScheduleLines
+mod TimedLines

@@ -4,3 +4,4 @@ pub mod TextDeed
 pub mod TextQueue
 pub mod TextReport
 pub mod TextSchedules
+pub mod TextTimes

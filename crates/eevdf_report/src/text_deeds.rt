@@ -122,6 +122,8 @@ fn prepend_answer(text: &mut BlockText, answer: Answer)
 }
 
 /// Writes a deed with its answer, as a schedule lists it, before the text.
+// inline: two loops over lines call it, and neither is to pay for the other
+#[inline(always)]
 pub(crate) fn prepend_schedule_line(text: &mut BlockText, line: Line)
     requires { most_bytes + length text.old ≤ block_room }
     ensures text { text.new ≡ schedule_line line ++ text.old }

@@ -15,7 +15,7 @@ use crate::seats::make_told_calls;
 use eevdf_fleet::Names;
 use eevdf_fleet::endless::{Closed, Fleet, Kit, Seat};
 use eevdf_ops::Outcome;
-use eevdf_report::report;
+use eevdf_report::{Form, report};
 use eevdf_workload::read_workload;
 use std::alloc::Global;
 use std::marker::Brand;
@@ -40,7 +40,7 @@ fn check_case<N: Names, R: Wait + Abort>(rt: &R, alloc: Global, kit: Kit, case: 
     let (fleet, mut seats) = Fleet::<N>::open(alloc, kit).expect(rt, "memory");
     make_told_calls(rt, alloc, &fleet, &mut seats, case.name, case.calls);
     let outcome = closed(alloc, fleet, seats).expect(rt, "outcome");
-    let text = report(alloc, &outcome, false).expect(rt, "memory");
+    let text = report(alloc, &outcome, Form::PLAIN).expect(rt, "memory");
     assert!(rt; text.as_slice() == case.report.as_bytes(), "{}", case.name);
 }
 

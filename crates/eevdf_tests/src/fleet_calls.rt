@@ -12,7 +12,7 @@ use crate::kits::kit_of;
 use crate::operation_texts::calls_of;
 use eevdf_fleet::{Fleet, Kit, Names, Seat};
 use eevdf_ops::{Op, Outcome};
-use eevdf_report::report;
+use eevdf_report::{Form, report};
 use eevdf_workload::read_workload;
 use seat_call::{Done, call_on};
 use std::alloc::Global;
@@ -98,7 +98,7 @@ fn holds<R: Wait + Abort>(rt: &R, alloc: Global, case: &Case) -> Option<bool> {
 
 /// Whether this is the report of an outcome, with its history.
 fn is_reported(rt: &impl Abort, alloc: Global, outcome: &Outcome, text: &str) -> bool {
-    let printed = report(alloc, outcome, true).expect(rt, "memory");
+    let printed = report(alloc, outcome, Form::WITH_HISTORY).expect(rt, "memory");
     printed.as_slice() == text.as_bytes()
 }
 

@@ -3,7 +3,7 @@
 use crate::fixtures::{cpu, task};
 use eevdf_ops::{CpuId, Outcome, Setup};
 use eevdf_queue::TaskId;
-use eevdf_report::report;
+use eevdf_report::{Form, report};
 use eevdf_steps::{Place, Player, StepFault};
 use eevdf_workload::{Workload, read_workload};
 use std::alloc::Global;
@@ -64,7 +64,7 @@ fn outcome_of_crossed_pulls(rt: &impl Abort, alloc: Global, setup: &Setup) -> Ou
 
 /// Asks that the report of crossed pulls is that of this outcome, with its history.
 fn is_reported(rt: &impl Abort, alloc: Global, outcome: &Outcome) {
-    let text = report(alloc, outcome, true).expect(rt, "memory");
+    let text = report(alloc, outcome, Form::WITH_HISTORY).expect(rt, "memory");
     assert!(rt; text.as_slice() == CROSSED_REPORT.as_bytes());
 }
 

@@ -2,7 +2,7 @@
 
 use crate::job_fault::JobFault;
 use crate::job_run::JobRun;
-use eevdf_bench::{BenchFault, Command, Kind, Watched, engine};
+use eevdf_bench::{BenchFault, Command, Form, Kind, Watched, engine};
 use std::alloc::Global;
 use std::sync::Wait;
 use std::thread::Threads;
@@ -28,7 +28,7 @@ fn report_of<R: Threads + Wait + Sync>(
     let mut writer = Watched::new(Vec::new(alloc));
     let command = Command {
         kind,
-        history: false,
+        form: Form::PLAIN,
     };
     engine(rt, alloc, &mut reader, &mut writer, command)?;
     Ok(writer.into_inner())

@@ -3,8 +3,8 @@
 use crate::called::{called, say_text};
 use crate::stopped::Stopped;
 use eevdf_bench::{
-    BenchFault, Command, Key, Kind, LoadFault, Watched, WordFault, Workload, command_of, engine,
-    fault_text, replay_text, report, run_text, solo_text,
+    BenchFault, Command, Form, Key, Kind, LoadFault, Watched, WordFault, Workload, command_of,
+    engine, fault_text, replay_text, report, run_text, solo_text,
 };
 use eevdf_fleet::RunFault;
 use eevdf_ops::{Outcome, SetupFault};
@@ -20,13 +20,13 @@ pub fn fault_calls(rt: &impl Print, alloc: Global) -> Result<(), Stopped> {
     say_fault(rt, alloc, &BenchFault::Load(LoadFault::BadValue { key }))
 }
 
-/// The calls that make a report, each with its command and whether the history is asked for.
-const TEXTS: [(&str, Kind, bool); 5] = [
-    ("solo_text", Kind::Solo, false),
-    ("solo_text --history", Kind::Solo, true),
-    ("replay_text", Kind::Replay, false),
-    ("replay_text --history", Kind::Replay, true),
-    ("run_text", Kind::Run, false),
+/// The calls that make a report, each with its command and the form that is asked for.
+const TEXTS: [(&str, Kind, Form); 5] = [
+    ("solo_text", Kind::Solo, Form::PLAIN),
+    ("solo_text --history", Kind::Solo, Form::WITH_HISTORY),
+    ("replay_text", Kind::Replay, Form::PLAIN),
+    ("replay_text --history", Kind::Replay, Form::WITH_HISTORY),
+    ("run_text", Kind::Run, Form::PLAIN),
 ];
 
 /// The reports of a workload by each command, or the faults' lines.
@@ -35,12 +35,12 @@ pub fn text_calls<R: Print + Threads + Wait + Sync>(
     alloc: Global,
     workload: &Workload,
 ) -> Result<(), Stopped> {
-    for (name, kind, history) in TEXTS {
+    for (name, kind, form) in TEXTS {
         let text = called!(
             rt,
             name,
             if is_refused,
-            text_of(rt, alloc, workload, kind, history)
+            text_of(rt, alloc, workload, kind, form)
         );
         say_answer(rt, alloc, text)?;
     }
@@ -52,12 +52,12 @@ fn text_of<R: Threads + Wait + Sync>(
     alloc: Global,
     workload: &Workload,
     kind: Kind,
-    history: bool,
+    form: Form,
 ) -> Result<Vec<u8>, BenchFault> {
     match kind {
-        Kind::Solo => solo_text(alloc, workload, history),
-        Kind::Replay => replay_text(alloc, workload, history),
-        Kind::Run => run_text(rt, alloc, workload, history),
+        Kind::Solo => solo_text(alloc, workload, form),
+        Kind::Replay => replay_text(alloc, workload, form),
+        Kind::Run => run_text(rt, alloc, workload, form),
     }
 }
 
@@ -126,7 +126,7 @@ fn print_report<R: Print + Threads + Wait + Sync>(
 
 /// Prints the report of an outcome, with its history.
 pub fn say_outcome(rt: &impl Print, alloc: Global, outcome: &Outcome) -> Result<(), Stopped> {
-    say_report(rt, alloc, outcome, true)
+    say_report(rt, alloc, outcome, Form::WITH_HISTORY)
 }
 
 /// Prints the report of an outcome.
@@ -134,9 +134,9 @@ pub fn say_report(
     rt: &impl Print,
     alloc: Global,
     outcome: &Outcome,
-    history: bool,
+    form: Form,
 ) -> Result<(), Stopped> {
-    let text = called!(rt, "report", Err(_), report(alloc, outcome, history))?;
+    let text = called!(rt, "report", Err(_), report(alloc, outcome, form))?;
     say_text(rt, &text);
     Ok(())
 }

@@ -3,6 +3,7 @@
 use crate::called::{called, say};
 use crate::stopped::Stopped;
 use crate::text_calls::say_report;
+use eevdf_bench::Form;
 use eevdf_fleet::{Closed, Fleet, Kit, Names, RunFault, Seat, SeatTurn, run_turns};
 use eevdf_ops::Setup;
 use eevdf_weight::Ns;
@@ -50,7 +51,7 @@ pub fn turn_calls<R: Print + Threads + Wait + Sync>(
             turns(rt, alloc, kit_of(alloc, setup)?).map_err(|_| Stopped)?
         }
     };
-    say_report(rt, alloc, &closed, false)
+    say_report(rt, alloc, &closed, Form::PLAIN)
 }
 
 /// A kit of the setup with room for the turns.

@@ -1,26 +1,59 @@
 //! Which words the program takes for which command.
 
-use eevdf_bench::{Kind, WordFault, command_of};
+use eevdf_bench::{Form, Kind, WordFault, command_of};
 use std::alloc::Global;
 use std::convert::AsStr;
 use std::process::Abort;
 
-/// What the words ask for, and whether the history is to be printed too.
-type Asked = Result<(Kind, bool), WordFault>;
+/// What the words ask for.
+type Asked = Result<(Kind, Form), WordFault>;
 
-const ROWS: [(&[&str], Asked); 22] = [
-    (&["eevdf", "solo"], Ok((Kind::Solo, false))),
-    (&["eevdf", "solo", "--history"], Ok((Kind::Solo, true))),
-    (&["eevdf", "replay"], Ok((Kind::Replay, false))),
-    (&["eevdf", "replay", "--history"], Ok((Kind::Replay, true))),
-    (&["eevdf", "run"], Ok((Kind::Run, false))),
-    (&["eevdf", "run", "--history"], Ok((Kind::Run, true))),
+const TIMES: Form = Form {
+    history: false,
+    times: true,
+};
+
+const BOTH: Form = Form {
+    history: true,
+    times: true,
+};
+
+const ROWS: [(&[&str], Asked); 27] = [
+    (&["eevdf", "solo"], Ok((Kind::Solo, Form::PLAIN))),
+    (
+        &["eevdf", "solo", "--history"],
+        Ok((Kind::Solo, Form::WITH_HISTORY)),
+    ),
+    (&["eevdf", "solo", "--times"], Ok((Kind::Solo, TIMES))),
+    (
+        &["eevdf", "solo", "--times", "--history"],
+        Ok((Kind::Solo, BOTH)),
+    ),
+    (&["eevdf", "replay"], Ok((Kind::Replay, Form::PLAIN))),
+    (
+        &["eevdf", "replay", "--history"],
+        Ok((Kind::Replay, Form::WITH_HISTORY)),
+    ),
+    (
+        &["eevdf", "replay", "--history", "--times"],
+        Ok((Kind::Replay, BOTH)),
+    ),
+    (&["eevdf", "run"], Ok((Kind::Run, Form::PLAIN))),
+    (
+        &["eevdf", "run", "--history"],
+        Ok((Kind::Run, Form::WITH_HISTORY)),
+    ),
+    (&["eevdf", "run", "--times"], Ok((Kind::Run, TIMES))),
     (&[], Err(WordFault::Words)),
     (&["eevdf"], Err(WordFault::Words)),
     (&["eevdf", "stop"], Err(WordFault::Words)),
     (&["eevdf", "--history", "solo"], Err(WordFault::Words)),
     (
         &["eevdf", "solo", "--history", "--history"],
+        Err(WordFault::Words),
+    ),
+    (
+        &["eevdf", "solo", "--times", "--times"],
         Err(WordFault::Words),
     ),
     (
@@ -48,7 +81,7 @@ fn words_are_taken_for_a_command_or_refused(rt: HostRuntime) {
 
 fn asked<S: AsStr>(alloc: Global, words: &[S]) -> Asked {
     let command = command_of(alloc, words)?;
-    Ok((command.kind, command.history))
+    Ok((command.kind, command.form))
 }
 
 /// These words as strings.
@@ -64,5 +97,5 @@ fn strings(rt: &impl Abort, alloc: Global, words: &[&str]) -> Vec<String> {
 #[test]
 fn words_may_be_strings(rt: HostRuntime) {
     let words = strings(&rt, rt.alloc(), &["eevdf", "solo"]);
-    assert!(rt; asked(rt.alloc(), words.as_slice()) == Ok((Kind::Solo, false)));
+    assert!(rt; asked(rt.alloc(), words.as_slice()) == Ok((Kind::Solo, Form::PLAIN)));
 }

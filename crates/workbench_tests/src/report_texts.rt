@@ -3,7 +3,7 @@
 use crate::fixtures::{cpu, nice, ns, slice, task};
 use eevdf_ops::{Answer, CpuId, Deed, Line, Outcome, Solo};
 use eevdf_queue::{Parcel, Queue, TaskId};
-use eevdf_report::report;
+use eevdf_report::{Form, report};
 use eevdf_weight::Nice;
 use eevdf_workload::read_workload;
 use std::alloc::Global;
@@ -304,7 +304,7 @@ const REPORT_OF_A_FAR_PLACE: &str =
 
 /// Asks that this is the report of an outcome, with its history.
 fn is_reported(rt: &impl Abort, alloc: Global, outcome: &Outcome, text: &str) {
-    let printed = report(alloc, outcome, true).expect(rt, "memory");
+    let printed = report(alloc, outcome, Form::WITH_HISTORY).expect(rt, "memory");
     assert!(rt; printed.as_slice() == text.as_bytes());
 }
 

@@ -4,7 +4,7 @@
 use super::gate_call::GateCall;
 use super::holding_gate::Holding;
 use eevdf_fleet::{Closed, run_all};
-use eevdf_report::report;
+use eevdf_report::{Form, report};
 use eevdf_workload::read_workload;
 use std::alloc::Global;
 use std::process::Abort;
@@ -17,7 +17,7 @@ struct Case {
     name: &'static str,
     workload: &'static [u8],
     holds: [(GateCall, GateCall); 2],
-    has_history: bool,
+    form: Form,
     report: &'static str,
 }
 
@@ -34,7 +34,7 @@ fn cases() -> [Case; 7] {
                 (GateCall::inside(0, 0), GateCall::inside(1, 0)),
                 (GateCall::inside(1, 0), GateCall::inside(0, 0)),
             ],
-            has_history: false,
+            form: Form::PLAIN,
             report: "cpu 0\npick: picked 0\nload 1024 floor 0\ntask 0 v 0 d 3000000 lag 0 running\ncpu 1\npick: picked 1\nload 1024 floor 0\ntask 1 v 0 d 3000000 lag 0 running\n",
         },
         // CPU 0 has acted and hasn't committed yet, so the line of CPU 1 comes first.
@@ -45,7 +45,7 @@ fn cases() -> [Case; 7] {
                 (GateCall::acted(0, 0), GateCall::answered(1, 0)),
                 (GateCall::inside(1, 0), GateCall::acted(0, 0)),
             ],
-            has_history: true,
+            form: Form::WITH_HISTORY,
             report: "cpu 0\npick: picked 0\nload 1024 floor 0\ntask 0 v 0 d 3000000 lag 0 running\ncpu 1\npick: picked 1\nload 1024 floor 0\ntask 1 v 0 d 3000000 lag 0 running\nscript = [\n\"1 pick\",\n\"0 pick\",\n]\n",
         },
         Case {
@@ -55,7 +55,7 @@ fn cases() -> [Case; 7] {
                 (GateCall::acted(0, 0), GateCall::answered(1, 0)),
                 (GateCall::inside(1, 0), GateCall::acted(0, 0)),
             ],
-            has_history: true,
+            form: Form::WITH_HISTORY,
             report: "cpu 0\npull 2: nothing\nload 0 floor 0\ncpu 1\npick: picked 0\nload 1024 floor 0\ntask 0 v 0 d 3000000 lag 0 running\ncpu 2\nload 0 floor 0\nscript = [\n\"1 pick\",\n\"0 pull 2\",\n]\n",
         },
         Case {
@@ -65,7 +65,7 @@ fn cases() -> [Case; 7] {
                 (GateCall::inside(0, 0), GateCall::answered(1, 1)),
                 (GateCall::inside(1, 0), GateCall::inside(0, 0)),
             ],
-            has_history: false,
+            form: Form::PLAIN,
             report: "cpu 0\npick: picked 0\nload 1024 floor 0\ntask 0 v 0 d 3000000 lag 0 running\nleft 0 from 1\ncpu 1\npick: picked 1\nload 1024 floor 0\ntask 1 v 0 d 3000000 lag 0 running\n",
         },
         Case {
@@ -75,7 +75,7 @@ fn cases() -> [Case; 7] {
                 (GateCall::inside(0, 0), GateCall::answered(1, 1)),
                 (GateCall::inside(1, 0), GateCall::inside(0, 0)),
             ],
-            has_history: false,
+            form: Form::PLAIN,
             report: "cpu 0\nwake 0 from 1: woken\nload 1024 floor 0\ntask 0 v 0 d 3000000 lag 0\ncpu 1\npick: idle\nload 0 floor 0\n",
         },
         Case {
@@ -85,7 +85,7 @@ fn cases() -> [Case; 7] {
                 (GateCall::answered(0, 0), GateCall::inside(1, 1)),
                 (GateCall::inside(1, 0), GateCall::acted(0, 0)),
             ],
-            has_history: false,
+            form: Form::PLAIN,
             report: "cpu 0\npick: picked 0\nload 1024 floor 0\ntask 0 v 0 d 3000000 lag 0 running\ncpu 1\npick: picked 1\npull 0: nothing\nload 1024 floor 0\ntask 1 v 0 d 3000000 lag 0 running\n",
         },
         // CPU 0 is the sender that a drain comes to first.
@@ -96,7 +96,7 @@ fn cases() -> [Case; 7] {
                 (GateCall::inside(1, 0), GateCall::answered(0, 1)),
                 (GateCall::inside(0, 0), GateCall::inside(1, 0)),
             ],
-            has_history: false,
+            form: Form::PLAIN,
             report: "cpu 0\npick: idle\nload 0 floor 0\ncpu 1\nwake 0 from 0: woken\nload 1024 floor 0\ntask 0 v 0 d 3000000 lag 0\n",
         },
     ]
@@ -113,7 +113,7 @@ fn check_case<R: Threads + Wait + Abort + Sync>(rt: &R, alloc: Global, case: &Ca
 
 /// Asks that the report of a run is that of a case.
 fn is_reported(rt: &impl Abort, alloc: Global, closed: &Closed, case: &Case) {
-    let report = report(alloc, closed, case.has_history).expect(rt, "memory");
+    let report = report(alloc, closed, case.form).expect(rt, "memory");
     assert!(rt;
         report.as_slice() == case.report.as_bytes(),
         "{}",

@@ -8,7 +8,7 @@ use super::pieces::Pieces;
 use super::reads::broken_reads;
 use super::workloads::{ROWS, Row};
 use super::writes::broken_writes;
-use eevdf_bench::{BenchFault, Key, Kind, LoadFault};
+use eevdf_bench::{BenchFault, Form, Key, Kind, LoadFault};
 use std::alloc::Global;
 use std::process::Abort;
 use std::sync::Wait;
@@ -51,7 +51,7 @@ fn check_broken_writer<R: Threads + Wait + Abort + Sync>(rt: &R, alloc: Global, 
 const NO_TEXT: Row<'static> = Row {
     name: "no text",
     kind: Kind::Solo,
-    history: false,
+    form: Form::PLAIN,
     workload: b"",
     printed: "",
 };

@@ -98,7 +98,7 @@ fn run_between<'a, R: Threads + Wait + Sync>(
     let mut writer = Watched::new(writer);
     let command = Command {
         kind: row.kind,
-        history: row.history,
+        form: row.form,
     };
     let result = engine(rt, alloc, &mut reader, &mut writer, command);
     EngineRun {

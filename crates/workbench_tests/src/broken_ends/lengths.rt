@@ -2,7 +2,7 @@
 
 use super::engine_run::{FAILED_READ, WHOLE, Wanted, check};
 use super::workloads::Row;
-use eevdf_bench::{BenchFault, Kind, LoadFault, read_workload};
+use eevdf_bench::{BenchFault, Form, Kind, LoadFault, read_workload};
 
 /// So many bytes a workload may have.
 const MOST: usize = 16_777_216;
@@ -19,7 +19,7 @@ fn a_longer_workload_is_refused(rt: HostRuntime) {
     let row = Row {
         name: "newlines",
         kind: Kind::Solo,
-        history: false,
+        form: Form::PLAIN,
         workload: &newlines,
         printed: "",
     };

@@ -8,7 +8,7 @@ use Rattle.clap.specs.Walk.{answers_to, is_empty, stop_after}
 use Rattle.clap.specs.{declared.builder.command.Command.Command, declared.builder.command.Command.TheViews.out-Command}
 use Rattle.clap.specs.{declared.parser.matches.ArgMatches.ArgMatches, declared.parser.matches.ArgMatches.TheViews.out-ArgMatches}
 use Rattle.clap.specs.{declared.parser.matches.ArgMatches.TheViews.out-SubCommand, declared.parser.matches.SubCommand.SubCommand}
-use Rattle.eevdf_bench.specs.Command.{has_history, history_in, kind_named, program, subcommand_named}
+use Rattle.eevdf_bench.specs.Command.{kind_named, program, subcommand_named}
 use Rattle.eevdf_bench.proofs.command.matches_of.Goals as goal
 
 -- `clap` tells all of a parse by this command line
@@ -40,10 +40,8 @@ name_met c words m is h =
     sym (ap (λ a. option_map (λ (p : Text × List Row). p.0) (subcommand_of a words)) is) ∙ sym (ap (option_map (λ (p : Text × List Row). p.0)) rows) ∙ name_of_rows (out-ArgMatches m).subcommand
 
 -- and so are its matches
-rows_met : (c : Command) (words : List Text) (m : ArgMatches) → app_of c ≡ program → HasMatchesOf (app_of c) words m → has_history words ≡ history_in (option_map (λ p. p.1) (subcommand_rows_of m))
-rows_met c words m is h =
-    sym (ap (λ a. history_in (option_map (λ (p : Text × List Row). p.1) (subcommand_of a words))) is)
-    ∙ sym (ap (λ (o : Option (Text × List Row)). history_in (option_map (λ p. p.1) o)) (h (ap is_simple is)).1)
+rows_met : (c : Command) (words : List Text) (m : ArgMatches) → app_of c ≡ program → HasMatchesOf (app_of c) words m → subcommand_rows_of m ≡ subcommand_of program words
+rows_met c words m is h = (h (ap is_simple is)).1 ∙ ap (λ a. subcommand_of a words) is
 
 -- and names a kind
 module _ (P : Text → Bool) where

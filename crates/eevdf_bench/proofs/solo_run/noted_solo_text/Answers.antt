@@ -11,7 +11,7 @@ solo-requires c =
 
 pub returns-clause-one_thread : goal.returns-clause-one_thread
 returns-clause-one_thread c =
-    script_report c.args.workload.now c.args.history c.setup.result.now c.in-Some.deeds.now c.in_ok-text.text.items c.in_ok-outcome.outcome c.in-Some.ensures.deeds c.setup.ensures
+    script_report c.args.workload.now c.args.form c.setup.result.now c.in-Some.deeds.now c.in_ok-text.text.items c.in_ok-outcome.outcome c.in-Some.ensures.deeds c.setup.ensures
     (script_allowed c.args.workload.now.setup c.args.workload.now.script c.in-Some.deeds.now c.in-Some.ensures.deeds c.in-Some.ensures.allowed)
     c.in_ok-outcome.ensures.lines c.in_ok-outcome.ensures.machine c.in_ok-outcome.ensures.places c.in_ok-text.ensures
 
