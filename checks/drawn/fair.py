@@ -36,7 +36,7 @@ class Comparison:
 
     def report(self, workload):
         if self.programs is None:
-            out, status = answer("solo", False, workload.encode())
+            out, status = answer(("solo",), workload.encode())
         else:
             printed = self.programs.run("eevdf", ["solo"], workload.encode())
             out, status = printed.out, printed.status

@@ -2,7 +2,8 @@
 """kernels.py [--loops N] [--seed SEED] [--top TOP] [--model]: lets the built program `fair_loop` make 100 drawn calls of a kernel from each
 of N seeds, 10000 where nothing is said, the first of which is SEED, and compares what it prints with what the plain model does. After each
 call no request may be later in the model than the bound that is read, and after some call of each kind one has to be so late that the bound
-is within 1.6 times of that. Half of the loops are promised 20 ms of virtual time, and mostly stop. With --model the program is left out.
+is within 1.6 times of that. Nor may a task lack more of its exact share since it came than the number that is read, and it has to come as
+near to that. Half of the loops are promised 20 ms of virtual time, and mostly stop. With --model the program is left out.
 The last line is 'N passed, M failed'."""
 
 import argparse
@@ -18,6 +19,7 @@ sys.path.append(str(Path(__file__).resolve().parents[1]))
 from plain.fair_queue import FairQueue
 from plain.generator import state_after, word_of
 from plain.queue import fits, fresh_entry
+from plain.share_clock import ShareClock
 from runner import TOP, Programs
 
 STEPS = 100
@@ -48,18 +50,21 @@ class Draws:
         return 1 + self.below(2**22)
 
 
-def make_call(fair, draws):
-    """Makes a drawn call, and answers its kind."""
+def make_call(fair, draws, calls):
+    """Makes a drawn call, of these besides a tick and a pick, and answers its kind, and the task that it may have moved, if it is of one
+    task."""
     task, kind = draws.below(TASKS), draws.below(19)
     if kind < 5:
         fair.tick(draws.tick())
-        return "tick"
+        return "tick", None
     if kind < 9:
         fair.pick()
-        return "pick"
-    name, call = CALLS[kind - 9]
+        return "pick", None
+    name, call = calls[kind - 9]
+    load = fair.queue.load()
     call(fair, task, draws)
-    return name
+    fair.clock.reload(load, fair.queue.load())
+    return name, task if name in MOVING else None
 
 
 def yield_now(fair, _task, _draws):
@@ -113,31 +118,45 @@ def measure(fair, _task, _draws):
     fair.measure()
 
 
-CALLS = (("yield", yield_now), ("sleep", sleep), ("wake", wake), ("renice", renice), ("set", set_both), ("begin", begin), ("end", end),
-         ("doze", doze), ("adopt", adopt), ("measure", measure))
+def rebase(fair, _task, _draws):
+    fair.rebase()
 
 
-class Comparison:
-    def __init__(self, programs):
-        self.programs = programs
+COMMON = (("yield", yield_now), ("sleep", sleep), ("wake", wake), ("renice", renice), ("set", set_both), ("begin", begin), ("end", end),
+          ("doze", doze), ("adopt", adopt))
+# The calls of the program in Rattle, and of one in C, where bounds can't be measured.
+CALLS = (*COMMON, ("measure", measure))
+CALLS_IN_C = (*COMMON, ("rebase", rebase))
+MOVING = ("wake", "renice", "set", "begin", "end")
+
+
+class Model:
+    """The loops as the plain model makes them, and how near a request has come to the bound after each kind of call."""
+
+    def __init__(self, kinds):
+        self.kinds = kinds
         self.calls: Counter[str] = Counter()
         self.nearest: dict[str, Fraction] = {}
-        self.passed, self.faults = 0, []
+        self.faults = []
 
-    def line(self, seed, promised):
-        """What the program is to print: how far the loop of a seed comes."""
-        fair, draws, greatest = FairQueue(), Draws(seed), 0
+    def line(self, seed):
+        """What a program is to print: how far the loop of a seed comes."""
+        return f"{self.loop(seed, FairQueue())}\n"
+
+    def loop(self, seed, fair):
+        promised, draws, greatest = PROMISES[seed % 2], Draws(seed), 0
         for done in range(STEPS):
             if promised < greatest:
-                return f"{done} of {STEPS} steps, greatest bound {greatest}\n"
-            kind = make_call(fair, draws)
-            bound = fair.bound()
-            greatest = max(greatest, bound)
-            self.look(f"seed {seed}, call {done}, a {kind}", kind, fair, bound)
-        return f"{STEPS} of {STEPS} steps, greatest bound {greatest}\n"
+                break
+            kind, moved = make_call(fair, draws, self.kinds)
+            greatest = max(greatest, fair.bound())
+            self.look(f"seed {seed}, call {done}, a {kind}", kind, moved, fair)
+        else:
+            done = STEPS
+        return f"{done} of {STEPS} steps, greatest bound {greatest}"
 
-    def look(self, name, kind, fair, bound):
-        late, load = fair.lateness(), fair.queue.load()
+    def look(self, name, kind, _moved, fair):
+        late, load, bound = fair.lateness(), fair.queue.load(), fair.bound()
         self.calls[kind] += 1
         if late > bound * load:
             self.faults.append(f"{name}: a request is late by {late} / {load}, and the bound is {bound}")
@@ -147,14 +166,58 @@ class Comparison:
     def near(self, kind):
         return self.nearest.get(kind, Fraction(0))
 
+    def look_how_near(self):
+        """Looks whether after some call of each kind a request was near the bound. Gives a line for each kind."""
+        for kind in ("tick", "pick", *(name for name, _ in self.kinds)):
+            near = self.near(kind)
+            if near < NEAR:
+                self.faults.append(f"after no {kind} a request comes near the bound")
+            yield f"{kind}: {self.calls[kind]} calls, late by up to {float(near):.3f} of the bound"
+
+
+class ModelOfShares(Model):
+    """The same, and how near a task has come to lacking of its share what is read."""
+
+    def __init__(self, kinds, clock=ShareClock):
+        super().__init__(kinds)
+        self.clock = clock
+        self.nearest_lack = Fraction(0)
+
+    def line(self, seed):
+        fair = FairQueue(self.clock)
+        return f"{self.loop(seed, fair)}, greatest lack {fair.stays.greatest}\n"
+
+    def look(self, name, kind, moved, fair):
+        super().look(name, kind, moved, fair)
+        for read, lack in fair.stays.look(fair, moved):
+            if lack > read:
+                self.faults.append(f"{name}: a task lacks {lack} ns of its share, and {read} was read")
+            elif lack > 0:
+                self.nearest_lack = max(self.nearest_lack, lack / read)
+
+    def look_how_near(self):
+        yield from super().look_how_near()
+        if self.nearest_lack < NEAR:
+            self.faults.append("no task lacks nearly as much of its share as is read")
+        yield f"a task lacks up to {float(self.nearest_lack):.3f} of what is read"
+
+
+class Comparison:
+    """The loops of the program in Rattle beside those of the model."""
+
+    def __init__(self, programs):
+        self.programs = programs
+        self.model = ModelOfShares(CALLS)
+        self.passed = 0
+
     def compare(self, seed):
-        promised, before = PROMISES[seed % 2], len(self.faults)
-        wanted = self.line(seed, promised)
+        faults = self.model.faults
+        before, wanted = len(faults), self.model.line(seed)
         if self.programs is not None:
-            printed = self.programs.run("fair_loop", ["kernel", str(seed), str(STEPS), str(promised)])
+            printed = self.programs.run("fair_loop", ["kernel", str(seed), str(STEPS), str(PROMISES[seed % 2])])
             if printed.out.decode() != wanted:
-                self.faults.append(f"seed {seed}: prints {printed}, and the model {wanted}")
-        self.passed += len(self.faults) == before
+                faults.append(f"seed {seed}: prints {printed}, and the model {wanted}")
+        self.passed += len(faults) == before
 
 
 def parse_words():
@@ -172,15 +235,13 @@ def main():
     print(f"seed {words.seed}", flush=True)
     for seed in range(words.seed, words.seed + words.loops):
         comparison.compare(seed)
-    for kind in ("tick", "pick", *(name for name, _ in CALLS)):
-        near = comparison.near(kind)
-        print(f"{kind}: {comparison.calls[kind]} calls, late by up to {float(near):.3f} of the bound")
-        if near < NEAR:
-            comparison.faults.append(f"after no {kind} a request comes near the bound")
-    for fault in comparison.faults:
+    for line in comparison.model.look_how_near():
+        print(line)
+    faults = comparison.model.faults
+    for fault in faults:
         print(f"FAILED: {fault}")
-    print(f"{comparison.passed} passed, {len(comparison.faults)} failed")
-    return bool(comparison.faults)
+    print(f"{comparison.passed} passed, {len(faults)} failed")
+    return bool(faults)
 
 
 if __name__ == "__main__":

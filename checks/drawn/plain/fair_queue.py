@@ -2,6 +2,7 @@
 
 from plain.dozes import DozingQueue
 from plain.numbers import charge_of
+from plain.share_clock import ShareClock, Stays
 
 LEAST, GREATEST = -(2**63), 2**63 - 1
 
@@ -11,17 +12,19 @@ def held(number):
     return max(LEAST, min(GREATEST, number))
 
 
-class FairQueue:
-    def __init__(self):
-        self.queue = DozingQueue()
+class Bounds:
+    """The three numbers beside a queue, of which others make the calls."""
+
+    def __init__(self, queue):
+        self.queue = queue
         self.front, self.longest, self.turn = LEAST, 0, None
+
+    def late_by(self, deadline):
+        return max(self.longest, held(self.front - deadline))
 
     def bound(self):
         first = self.queue.peek()
-        if first is None:
-            return 0
-        earliest = min(self.queue.virtual_time(), self.queue.runnable[first].d)
-        return max(self.longest, held(self.front - earliest))
+        return 0 if first is None else self.late_by(min(self.queue.virtual_time(), self.queue.runnable[first].d))
 
     def lateness(self):
         """By how much the exact virtual time is past the earliest deadline, times the load."""
@@ -29,13 +32,11 @@ class FairQueue:
             return 0
         return self.queue.moment() - min(entry.d for entry in self.queue.runnable.values()) * self.queue.load()
 
-    def pick(self):
-        self.queue.pick()
+    def begin_turn(self):
         self.turn = 0
 
-    def tick(self, nanoseconds):
-        if not self.queue.tick(nanoseconds).startswith("charged"):
-            return
+    def charge(self, nanoseconds):
+        """Whoever runs was charged."""
         entry = self.queue.runnable[self.queue.running]
         if self.turn is None:
             self.raise_to(entry.v)
@@ -43,9 +44,8 @@ class FairQueue:
             self.turn = held(self.turn + charge_of(nanoseconds, entry.weight()))
             self.longest = max(self.longest, self.turn)
 
-    def adopt(self, task):
-        if task in self.queue.runnable:
-            self.queue.running, self.turn = task, None
+    def lower(self, by):
+        self.front = held(self.front - by)
 
     def measure(self):
         """Looks at each runnable task in place of what was kept."""
@@ -77,3 +77,29 @@ class FairQueue:
 
     def raise_to(self, front):
         self.front, self.turn = max(self.front, front), None
+
+
+class FairQueue(Bounds):
+    def __init__(self, clock=ShareClock):
+        super().__init__(DozingQueue())
+        self.clock, self.stays = clock(), Stays()
+
+    def pick(self):
+        self.queue.pick()
+        self.begin_turn()
+
+    def tick(self, nanoseconds):
+        if not self.queue.tick(nanoseconds).startswith("charged"):
+            return
+        self.clock.charge(nanoseconds, self.queue.load())
+        self.stays.charge(self.queue, nanoseconds)
+        self.charge(nanoseconds)
+
+    def adopt(self, task):
+        if task in self.queue.runnable:
+            self.queue.running, self.turn = task, None
+
+    def rebase(self):
+        by = self.queue.rebase()
+        self.lower(by)
+        self.clock.lower(by)

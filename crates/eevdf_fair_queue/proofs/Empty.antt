@@ -1,10 +1,10 @@
 -- Where nothing is runnable, fresh bounds are fair.
-use Rattle.std.proofs.Common.{◌≡◌, ℕ, Some, None, ap, ◌∙◌, arith}
-use Rattle.std.specs.Prelude.{ℤ, pos, ◌≤ℤ◌}
+use Rattle.std.proofs.Common.{◌≡◌, ℕ, Some, None, ap, ◌∙◌}
+use Rattle.std.specs.Prelude.{ℤ, pos}
 use Rattle.std.specs.{Ordering.nat_cmp, FinMap.empty, FinMap.get, FinMap.get-empty}
-use Rattle.std.proofs.lemmas.Int.{ints}
 use Rattle.eevdf_queue.specs.{declared.entry.Entry.Entry, State.State, Sums.Tasks}
 use Rattle.eevdf_fair_queue.specs.{Bounds.fresh, Fair.IsFair}
+use Rattle.eevdf_fair_queue.proofs.Orders.{nothing_less}
 
 none_there : {A : Type 0} (tasks : Tasks) (t : ℕ) (x : Entry) → tasks ≡ empty → get tasks t ≡ Some x → A
 none_there tasks t x nobody at =
@@ -12,9 +12,6 @@ none_there tasks t x nobody at =
 
 no_turn : {A : Type 0} (turn : ℤ) → None ≡ Some turn → A
 no_turn turn is = absurd (cc)
-
-nothing_less : (z : ℤ) → z ≤ℤ z
-nothing_less z = omega (arith, ints)
 
 pub nobody_is_fair : (q : State) → q.runnable ≡ empty → IsFair q fresh
 nobody_is_fair q nobody = record {

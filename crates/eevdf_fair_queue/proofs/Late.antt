@@ -11,6 +11,7 @@ use Rattle.eevdf_dozes.proofs.Punctual.{time_within}
 use Rattle.eevdf_fair_queue.specs.{declared.bounds.Bounds.Bounds, Bounds.held, Bounds.late_by}
 use Rattle.eevdf_fair_queue.specs.{Fair.IsFair, Lateness.IsLateBy, Lateness.NoneIsLaterThan}
 use Rattle.eevdf_fair_queue.proofs.{Nearness.small, Nearness.held_past, MeanTimes.floor_within, MeanTimes.over_some, MeanTimes.weighs}
+use Rattle.eevdf_fair_queue.proofs.Orders.{lesser, lesser_other, nothing_less, one, then}
 
 from_front : (v front d x : ℤ) → v ≤ℤ front → x ≤ℤ d → v ≤ℤ (d +ℤ (front -ℤ x))
 from_front v front d x h k = omega (arith, ints, h, k)
@@ -36,15 +37,6 @@ late_within q b kept fair x task e here before =
     (fair.near t task y e at here))
 
 -- ---- the earliest deadline
-lesser : (a b : ℤ) → int_min a b ≤ℤ a
-lesser a b = omega (arith, ints, clamps)
-
-lesser_other : (a b : ℤ) → int_min a b ≤ℤ b
-lesser_other a b = omega (arith, ints, clamps)
-
-then : (a b c : ℤ) → a ≤ℤ b → b ≤ℤ c → a ≤ℤ c
-then a b c h k = omega (arith, ints, h, k)
-
 no_later : (d e : ℤ) (t u : ℕ) → (d <ℤ e) ⊎ ((d ≡ e) × (t ≤ u)) → d ≤ℤ e
 no_later d e t u (inl h) = omega (arith, ints, h)
 no_later d e t u (inr h) = omega (arith, ints, h.0)
@@ -65,9 +57,6 @@ before_by q p pick due t e here false is =
     then (int_min (virtual_time q) pick.entry.d) (virtual_time q) e.d (lesser (virtual_time q) pick.entry.d)
     (then (virtual_time q) e.v e.d (time_before q t e here is) (due t e here))
 
-one : (e f : Entry) (o : Option Entry) → o ≡ Some e → o ≡ Some f → e ≡ f
-one e f o h k = cc
-
 pub none_later : PickIsFirst → (q : State) (b : Bounds) (p : ℕ) (f : Entry) → IsKept q → IsFair q b → pick_of q.runnable ≡ Some p → get q.runnable p ≡ Some f
     → NoneIsLaterThan q (late_by b (int_min (virtual_time q) f.d))
 none_later first q b p f kept fair is at task e here =
@@ -81,9 +70,6 @@ none_at_all nobody q is task e here =
     let none : q.runnable ≡ empty = (nobody q.runnable).0 (ap (λ (o : Option ℕ). is_some o) is) in
     let gone : get q.runnable task ≡ None = ap (λ (m : Tasks). get m task) none ∙ get-empty nat_cmp task in
     absurd (cc)
-
-nothing_less : (z : ℤ) → z ≤ℤ z
-nothing_less z = omega (arith, ints)
 
 pub late_of : (q : State) (b : Bounds) (task : ℕ) (f : Entry) → IsKept q → IsFair q b → get q.runnable task ≡ Some f → IsLateBy q task (late_by b f.d)
 late_of q b task f kept fair at e here =

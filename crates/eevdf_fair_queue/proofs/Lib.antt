@@ -1,3 +1,4 @@
+pub mod Orders
 pub mod Nearness
 pub mod MeanTimes
 pub mod Settled
@@ -9,4 +10,10 @@ pub mod Late
 pub mod Arrivals
 pub mod InTime
 pub mod Measured
+pub mod Slices
 pub mod Leavings
+pub mod Parts
+pub mod ExactShares
+pub mod Owed
+pub mod Marks
+pub mod Beside

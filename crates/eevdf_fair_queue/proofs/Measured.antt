@@ -9,21 +9,15 @@ use Rattle.eevdf_queue.proofs.Bounds.{within}
 use Rattle.eevdf_fairness.proofs.EntrySums.{Each, each}
 use Rattle.eevdf_fair_queue.specs.{declared.bounds.Bounds.Bounds, declared.bounds.Mark.Mark, Bounds.held, Bounds.late_by}
 use Rattle.eevdf_fair_queue.specs.{Fair.IsFair, Fair.IsTurn, Lateness.lateness_bound, Lateness.bound_by, Measured.beside, Measured.extremes, Measured.past_by, Measured.measured}
-use Rattle.eevdf_fair_queue.proofs.{Nearness.small, Nearness.held_past, Late.within_bound, Late.before_by}
+use Rattle.eevdf_fair_queue.proofs.{Nearness.small, Nearness.held_past, Late.within_bound, Late.before_by, Orders.lesser_other, Orders.nothing_less, Orders.one}
 
 -- ---- the extremes are beyond each task
 abbrev IsBeyond : Option Mark → Entry → Type 0
 IsBeyond None e = ⊥
 IsBeyond (Some m) e = (e.v ≤ℤ m.v) × (m.d ≤ℤ e.d)
 
-nothing_less : (z : ℤ) → z ≤ℤ z
-nothing_less z = omega (arith, ints)
-
 later : (a b : ℤ) → b ≤ℤ int_max a b
 later a b = omega (arith, ints, clamps)
-
-earlier : (a b : ℤ) → int_min a b ≤ℤ b
-earlier a b = omega (arith, ints, clamps)
 
 stays_later : (v a b : ℤ) → v ≤ℤ a → v ≤ℤ int_max a b
 stays_later v a b h = omega (arith, ints, clamps, h)
@@ -33,7 +27,7 @@ stays_earlier d a b h = omega (arith, ints, clamps, h)
 
 beyond_one : (o : Option Mark) (x : ℕ × Entry) → IsBeyond (beside o x) x.1
 beyond_one None x = (nothing_less x.1.v, nothing_less x.1.d)
-beyond_one (Some m) x = (later m.v x.1.v, earlier m.d x.1.d)
+beyond_one (Some m) x = (later m.v x.1.v, lesser_other m.d x.1.d)
 
 stays_beyond : (o : Option Mark) (x : ℕ × Entry) (e : Entry) → IsBeyond o e → IsBeyond (beside o x) e
 stays_beyond None x e h = absurd h
@@ -161,9 +155,6 @@ no_less_than z h = omega (arith, ints, h)
 
 some_bound : (longest z : ℤ) → pos 0 ≤ℤ longest → pos 0 ≤ℤ int_max longest z
 some_bound longest z h = omega (arith, ints, clamps, h)
-
-one : (e f : Entry) (o : Option Entry) → o ≡ Some e → o ≡ Some f → e ≡ f
-one e f o h k = cc
 
 at_pick : PickIsFirst → (q : State) (b : Bounds) (p : ℕ) (f : Entry) → IsKept q → IsFair q b → pick_of q.runnable ≡ Some p → get q.runnable p ≡ Some f
     → late_by (measured b q) (int_min (virtual_time q) f.d) ≤ℤ late_by b (int_min (virtual_time q) f.d)

@@ -6,12 +6,13 @@ use Rattle.eevdf_queue.specs.{declared.entry.Entry.Entry, State.State, State.Vie
 use Rattle.eevdf_queue.specs.{Codes.view_code, declared.answers.TickAnswer.TickAnswer}
 use Rattle.eevdf_queue.specs.declared.answers.TickAnswer.TheVariants.{Charged, Idle, Range}
 use Rattle.eevdf_dozes.specs.Stretches.{NoneIsPastDue}
-use Rattle.eevdf_fair_queue.specs.{declared.bounds.Bounds.Bounds, declared.bounds.Mark.Mark, Bounds.charged_to}
+use Rattle.eevdf_fair_queue.specs.{declared.bounds.Bounds.Bounds, declared.bounds.Mark.Mark, Bounds.charged_to, ShareClock.Clock, ShareClock.clock_code}
 
--- what is seen of a fair queue: its queue and its bounds
+-- what is seen of a fair queue: its queue, its bounds and the clock of shares
 pub record FairView : Type 0 where
   pub queue : View
   pub bounds : Bounds
+  pub clock : Clock
 
 -- a virtual runtime isn't past the front, or isn't past a deadline by more than the longest turn
 abbrev pub IsNear : Bounds → ℤ → ℤ → Type 0
@@ -57,7 +58,9 @@ bounds_code =
     (λ b. (b.front, (b.longest, b.turn))) (λ p. record { front = p.0; longest = p.1.0; turn = p.1.1 }) (λ _. refl)
 
 abbrev pub fair_view_code : Coded FairView
-fair_view_code = code_by (View × Bounds) (coded× view_code bounds_code) (λ f. (f.queue, f.bounds)) (λ p. record { queue = p.0; bounds = p.1 }) (λ _. refl)
+fair_view_code =
+    code_by (View × (Bounds × Clock)) (coded× view_code (coded× bounds_code clock_code))
+    (λ f. (f.queue, (f.bounds, f.clock))) (λ p. record { queue = p.0; bounds = p.1.0; clock = p.1.1 }) (λ _. refl)
 
 -- what a task has that was charged by a tick that was answered so
 abbrev pub charged_entry : TickAnswer → State → Option Entry

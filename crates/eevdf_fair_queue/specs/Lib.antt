@@ -5,3 +5,6 @@ pub mod InTime
 pub mod Sleeping
 pub mod Measured
 pub mod Leavings
+pub mod ShareClock
+pub mod Owed
+pub mod Beside

@@ -3,14 +3,17 @@ ghost use Rattle.std.specs.FinMap as map;
 ghost use Rattle.eevdf_queue.specs.State.{empty_state};
 ghost use Rattle.eevdf_fair_queue.specs.Bounds as bounds;
 ghost use Rattle.eevdf_fair_queue.specs.Fair.{IsFair};
+ghost use Rattle.eevdf_fair_queue.specs.ShareClock as clock;
 
 mod changes;
 mod lateness;
 mod leavings;
 mod measuring;
+mod shares;
 mod turns;
 
 use crate::bounds::Bounds;
+use crate::share_clock::ShareClock;
 use eevdf_queue::Queue;
 use std::marker::Model;
 
@@ -20,6 +23,7 @@ use std::marker::Model;
 pub struct FairQueue {
     queue: Queue,
     bounds: Bounds,
+    clock: ShareClock,
 }
 
 impl Model for FairQueue {
@@ -29,7 +33,7 @@ impl Model for FairQueue {
 
     ghost coded = { fair_view_code };
 
-    ghost view = { λ f. record { queue = f.queue; bounds = f.bounds } };
+    ghost view = { λ f. record { queue = f.queue; bounds = f.bounds; clock = f.clock } };
 
     ghost invariant = { λ f. IsFair f.queue.state f.bounds };
 }
@@ -39,10 +43,12 @@ impl FairQueue {
     pub fn open() -> FairQueue
         ensures queue { result.queue ≡ record { state = empty_state; pick_depth = 0; depths = map.empty } }
         ensures bounds { result.bounds ≡ bounds.fresh }
+        ensures clock { result.clock ≡ clock.begun }
     {
         FairQueue {
             queue: Queue::open(),
             bounds: Bounds::fresh(),
+            clock: ShareClock::start(),
         }
     }
 

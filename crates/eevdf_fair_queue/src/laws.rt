@@ -1,8 +1,10 @@
 //! Laws of how late requests are, each the contract of a function that does nothing.
 
 ghost use Rattle.std.specs.Prelude.{◌≤ℤ◌};
+ghost use Rattle.eevdf_fair_queue.specs.Beside.{SharesBesideAreTold};
 ghost use Rattle.eevdf_fair_queue.specs.Lateness.{NearArrivalsKeepBounds, NoneIsLaterThan};
 ghost use Rattle.eevdf_fair_queue.specs.Leavings.{LeavingsKeepBounds};
+ghost use Rattle.eevdf_fair_queue.specs.Owed.{SharesAreTold};
 
 use crate::fair_queue::FairQueue;
 
@@ -13,8 +15,8 @@ pub fn none_is_later_than_more(queue: &FairQueue, by: i64, more: i64)
     ensures { NoneIsLaterThan queue.now.queue.state more }
 {}
 
-/// A doze, a yield, a new beginning and a stop, and each call by which a task leaves or is put to sleep, leave the bounds of a queue true. So
-/// these calls can be made of a queue with [`Bounds`](crate::Bounds) beside it as they are.
+/// A doze, a yield, a new beginning, another slice and a stop, and each call by which a task leaves or is put to sleep, leave the bounds of a
+/// queue true. So these calls can be made of a queue with [`Bounds`](crate::Bounds) beside it as they are.
 pub fn leavings_keep_bounds()
     ensures { LeavingsKeepBounds }
 {}
@@ -24,4 +26,19 @@ pub fn leavings_keep_bounds()
 #[tactic(auto, using(crate::proofs::Arrivals::near_arrivals_keep_bounds))]
 pub fn near_arrivals_keep_bounds()
     ensures { NearArrivalsKeepBounds }
+{}
+
+/// What tasks are owed of the CPU since a mark, as each call leaves it. A tick that charges adds to the share of each runnable task its weight
+/// over the load, times the nanoseconds, exactly, and to what whoever ran was served the nanoseconds. A rebase, a yield, and each call that
+/// leaves the runnable tasks as they are change nothing of it; any other changes nothing of it for the tasks that stay runnable at the
+/// virtual runtime and the nice level that they had.
+#[tactic(auto, using(crate::proofs::Owed::shares_are_told))]
+pub fn shares_are_told()
+    ensures { SharesAreTold }
+{}
+
+/// The same where [`Shares`](crate::Shares) lie beside a queue and are told of each tick that charges and of each rebase: any other call
+/// changes nothing of what a task is owed that stays runnable at the virtual runtime and the nice level that it had.
+pub fn shares_beside_are_told()
+    ensures { SharesBesideAreTold }
 {}

@@ -9,6 +9,10 @@
 mod bounds;
 mod fair_queue;
 pub mod laws;
+mod share_clock;
+mod shares;
 
 pub use bounds::{Bounds, Mark};
 pub use fair_queue::FairQueue;
+pub use share_clock::ShareMark;
+pub use shares::Shares;

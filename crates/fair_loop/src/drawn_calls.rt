@@ -8,10 +8,21 @@ use std::alloc::Global;
 /// The tasks that come and go have numbers below this.
 const TASKS: u64 = 12;
 
-/// Makes one drawn call: of 19 five are ticks, and four picks.
-pub fn make_call(queue: &mut FairQueue, alloc: Global, draws: &mut Draws) {
+/// Makes one drawn call: of 19 five are ticks, and four picks. Answers the task that it may have moved, if it is of one task.
+pub fn make_call(queue: &mut FairQueue, alloc: Global, draws: &mut Draws) -> Option<TaskId> {
     let task = draws.task(TASKS);
-    match draws.below(19) {
+    let kind = draws.below(19);
+    call(queue, alloc, draws, task, kind);
+    if 11 <= kind && kind < 16 {
+        Some(task)
+    } else {
+        None
+    }
+}
+
+/// Makes a call of a kind.
+fn call(queue: &mut FairQueue, alloc: Global, draws: &mut Draws, task: TaskId, kind: u64) {
+    match kind {
         0..5 => {
             let _ = queue.tick(draws.tick());
         }

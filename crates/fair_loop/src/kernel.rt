@@ -3,6 +3,7 @@ ghost use Rattle.std.specs.Int.{int_max};
 ghost use Rattle.eevdf_fair_queue.specs.Lateness.{NoneIsLaterThan, lateness_bound};
 
 use crate::drawn_calls::make_call;
+use crate::lacks::Lacks;
 use drawn_values::Draws;
 use eevdf_fair_queue::FairQueue;
 use eevdf_fair_queue::laws::none_is_later_than_more;
@@ -14,6 +15,8 @@ pub struct Kernel {
     pub queue: FairQueue,
     /// The greatest bound that was read: no request is later than that.
     pub greatest: i64,
+    /// What the tasks lacked of their shares.
+    pub lacks: Lacks,
     pub ghost late: { NoneIsLaterThan queue.queue.state greatest },
 }
 
@@ -28,15 +31,20 @@ impl Kernel {
     pub fn open() -> Kernel {
         let queue = FairQueue::open();
         let greatest = queue.lateness_bound();
-        Kernel { queue, greatest }
+        Kernel {
+            queue,
+            greatest,
+            lacks: Lacks::none(),
+        }
     }
 
-    /// Makes one drawn call, and reads the bound after it.
+    /// Makes one drawn call, and reads the bound after it, and what tasks lack.
     pub fn step(&mut self, alloc: Global, draws: &mut Draws)
         ensures { self.new.greatest ≡ int_max self.old.greatest
             (lateness_bound self.new.queue.queue.state self.new.queue.bounds) }
     {
-        make_call(&mut self.queue, alloc, draws);
+        let moved = make_call(&mut self.queue, alloc, draws);
+        self.lacks.look(&self.queue, moved);
         let bound = self.queue.lateness_bound();
         let greatest = self.greatest.max(bound);
         none_is_later_than_more(&self.queue, bound, greatest);

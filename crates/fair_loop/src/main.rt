@@ -1,6 +1,6 @@
 //! The loop of a kernel on a fair queue: `fair_loop kernel SEED STEPS PROMISED` makes so many calls that are drawn from a seed, reads after
 //! each by how much a request can be late, and stops where that is above the promised number, in virtual time. It prints how many calls
-//! were made, and the greatest number that was read.
+//! were made, the greatest number that was read, and the most nanoseconds that a task lacked of its share since it came.
 //!
 //! `fair_loop fair MIX TASKS TURNS` makes turns of picks and ticks on a fair queue, and `fair_loop plain MIX TASKS TURNS` the same on a
 //! queue. `bench/count` counts their instructions.
@@ -11,6 +11,7 @@ mod counted_queue;
 mod counted_turns;
 mod drawn_calls;
 mod kernel;
+mod lacks;
 
 use crate::asked_run::{AskedKernel, AskedRun, AskedTurns, WordFault};
 use crate::counted_turns::sum_of;
@@ -35,8 +36,8 @@ fn run_kernel(rt: &impl Print, alloc: Global, asked: &AskedKernel) -> u8 {
         Ok(()) => (asked.steps, 0),
         Err(Stopped { after }) => (after, 1),
     };
-    let (steps, greatest) = (asked.steps, kernel.greatest);
-    match println!(rt; "{done} of {steps} steps, greatest bound {greatest}") {
+    let (steps, greatest, lack) = (asked.steps, kernel.greatest, kernel.lacks.greatest);
+    match println!(rt; "{done} of {steps} steps, greatest bound {greatest}, greatest lack {lack}") {
         Ok(()) => status,
         Err(_) => 3,
     }

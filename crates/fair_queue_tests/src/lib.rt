@@ -1,4 +1,4 @@
-//! Tests of eevdf_fair_queue, by its calls: the bound that is read beside how late requests really are.
+//! Tests of eevdf_fair_queue, by its calls: the bound that is read beside how late requests really are; and of eevdf_fair_seat.
 #![tactic(auto)]
 
 #[cfg(test)]
@@ -9,3 +9,7 @@ mod drawn_loops;
 mod kits;
 #[cfg(test)]
 mod near_bounds;
+#[cfg(test)]
+mod seat_bounds;
+#[cfg(test)]
+mod shares;

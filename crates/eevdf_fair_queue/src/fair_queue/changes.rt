@@ -9,6 +9,7 @@ ghost use Rattle.eevdf_queue.specs.{Placing.put, Trying.tried};
 ghost use Rattle.eevdf_queue.specs.Wake as wakes;
 ghost use Rattle.eevdf_fair_queue.specs.Bounds as bounds;
 ghost use Rattle.eevdf_fair_queue.specs.Fair.{mark_of};
+ghost use Rattle.eevdf_fair_queue.specs.Owed.{reloaded_from};
 
 use crate::fair_queue::FairQueue;
 use eevdf_queue::{Parcel, Refused, ReniceAnswer, SetAnswer, TaskId, WakeAnswer};
@@ -27,8 +28,12 @@ impl FairQueue {
         ensures bounds { self.new.bounds ≡ bounds.settled self.old.bounds
             (mark_of self.old.queue.state parcel.task)
             (map.get self.new.queue.state.runnable parcel.task) }
+        ensures clock { self.new.clock ≡ reloaded_from self.old self.new }
     {
-        self.bounds.try_admit(&mut self.queue, parcel)
+        let before = self.queue.load();
+        let result = self.bounds.try_admit(&mut self.queue, parcel);
+        self.clock.reload(before, self.queue.load());
+        result
     }
 
     /// Makes a task runnable with its lag as [`Queue::try_attach`](eevdf_queue::Queue::try_attach) does.
@@ -43,8 +48,12 @@ impl FairQueue {
         ensures bounds { self.new.bounds ≡ bounds.settled self.old.bounds
             (mark_of self.old.queue.state parcel.task)
             (map.get self.new.queue.state.runnable parcel.task) }
+        ensures clock { self.new.clock ≡ reloaded_from self.old self.new }
     {
-        self.bounds.try_attach(&mut self.queue, parcel)
+        let before = self.queue.load();
+        let result = self.bounds.try_attach(&mut self.queue, parcel);
+        self.clock.reload(before, self.queue.load());
+        result
     }
 
     /// Wakes a task as [`Queue::wake`](eevdf_queue::Queue::wake) does.
@@ -54,8 +63,12 @@ impl FairQueue {
         ensures pick_depth { self.new.queue.pick_depth ≡ self.old.queue.pick_depth }
         ensures bounds { self.new.bounds ≡ bounds.settled self.old.bounds
             (mark_of self.old.queue.state task) (map.get self.new.queue.state.runnable task) }
+        ensures clock { self.new.clock ≡ reloaded_from self.old self.new }
     {
-        self.bounds.wake(&mut self.queue, task)
+        let before = self.queue.load();
+        let answer = self.bounds.wake(&mut self.queue, task);
+        self.clock.reload(before, self.queue.load());
+        answer
     }
 
     /// Gives a runnable task another nice level as [`Queue::renice`](eevdf_queue::Queue::renice) does.
@@ -65,8 +78,12 @@ impl FairQueue {
         ensures pick_depth { self.new.queue.pick_depth ≡ self.old.queue.pick_depth }
         ensures bounds { self.new.bounds ≡ bounds.settled self.old.bounds
             (mark_of self.old.queue.state task) (map.get self.new.queue.state.runnable task) }
+        ensures clock { self.new.clock ≡ reloaded_from self.old self.new }
     {
-        self.bounds.renice(&mut self.queue, task, nice)
+        let before = self.queue.load();
+        let answer = self.bounds.renice(&mut self.queue, task, nice);
+        self.clock.reload(before, self.queue.load());
+        answer
     }
 
     /// Gives a task another nice level and slice as [`Queue::set`](eevdf_queue::Queue::set) does.
@@ -76,7 +93,11 @@ impl FairQueue {
         ensures pick_depth { self.new.queue.pick_depth ≡ self.old.queue.pick_depth }
         ensures bounds { self.new.bounds ≡ bounds.settled self.old.bounds
             (mark_of self.old.queue.state task) (map.get self.new.queue.state.runnable task) }
+        ensures clock { self.new.clock ≡ reloaded_from self.old self.new }
     {
-        self.bounds.set(&mut self.queue, task, nice, slice)
+        let before = self.queue.load();
+        let answer = self.bounds.set(&mut self.queue, task, nice, slice);
+        self.clock.reload(before, self.queue.load());
+        answer
     }
 }

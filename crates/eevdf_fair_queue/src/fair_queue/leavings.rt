@@ -6,6 +6,7 @@ ghost use Rattle.std.specs.FinMap as map;
 ghost use Rattle.eevdf_queue.specs.Attributes as attributes;
 ghost use Rattle.eevdf_queue.specs.Doze as dozes;
 ghost use Rattle.eevdf_queue.specs.Leaving.{IsNowhere, carried, carried_asleep, carried_running, leave, leave_asleep};
+ghost use Rattle.eevdf_fair_queue.specs.Owed.{reloaded_from};
 ghost use Rattle.eevdf_fair_queue.specs.Sleeping.{slept};
 
 use crate::fair_queue::FairQueue;
@@ -20,8 +21,11 @@ impl FairQueue {
         ensures after { self.new.queue.state ≡ slept self.old.queue.state task }
         ensures pick_depth { self.new.queue.pick_depth ≡ self.old.queue.pick_depth }
         ensures bounds { self.new.bounds ≡ self.old.bounds }
+        ensures clock { self.new.clock ≡ reloaded_from self.old self.new }
     {
+        let before = self.queue.load();
         let parcel = self.queue.detach_running(task)?;
+        self.clock.reload(before, self.queue.load());
         let lag = parcel.lag();
         self.queue.put_asleep(parcel);
         Some(lag)
@@ -33,8 +37,12 @@ impl FairQueue {
         ensures after { self.new.queue.state ≡ dozes.doze self.old.queue.state task }
         ensures pick_depth { self.new.queue.pick_depth ≡ self.old.queue.pick_depth }
         ensures bounds { self.new.bounds ≡ self.old.bounds }
+        ensures clock { self.new.clock ≡ reloaded_from self.old self.new }
     {
-        self.queue.doze(task)
+        let before = self.queue.load();
+        let lag = self.queue.doze(task);
+        self.clock.reload(before, self.queue.load());
+        lag
     }
 
     /// Takes out a runnable task as [`Queue::detach_runnable`](eevdf_queue::Queue::detach_runnable) does.
@@ -45,8 +53,12 @@ impl FairQueue {
         ensures nowhere { IfSome result (λ parcel. IsNowhere self.new.queue.state parcel.task) }
         ensures pick_depth { self.new.queue.pick_depth ≡ self.old.queue.pick_depth }
         ensures bounds { self.new.bounds ≡ self.old.bounds }
+        ensures clock { self.new.clock ≡ reloaded_from self.old self.new }
     {
-        self.queue.detach_runnable(task)
+        let before = self.queue.load();
+        let parcel = self.queue.detach_runnable(task);
+        self.clock.reload(before, self.queue.load());
+        parcel
     }
 
     /// Takes out a sleeping task as [`Queue::detach_asleep`](eevdf_queue::Queue::detach_asleep) does.
@@ -57,6 +69,7 @@ impl FairQueue {
         ensures nowhere { IfSome result (λ parcel. IsNowhere self.new.queue.state parcel.task) }
         ensures pick_depth { self.new.queue.pick_depth ≡ self.old.queue.pick_depth }
         ensures bounds { self.new.bounds ≡ self.old.bounds }
+        ensures clock { self.new.clock ≡ self.old.clock }
     {
         self.queue.detach_asleep(task)
     }
@@ -67,6 +80,7 @@ impl FairQueue {
         ensures after { self.new.queue.state ≡ attributes.begin self.old.queue.state task nice slice }
         ensures pick_depth { self.new.queue.pick_depth ≡ self.old.queue.pick_depth }
         ensures bounds { self.new.bounds ≡ self.old.bounds }
+        ensures clock { self.new.clock ≡ self.old.clock }
     {
         self.queue.begin(task, nice, slice)
     }

@@ -9,6 +9,8 @@ ghost use Rattle.eevdf_queue.specs.Tick as ticks;
 ghost use Rattle.eevdf_queue.specs.Yield as yields;
 ghost use Rattle.eevdf_fair_queue.specs.Bounds as bounds;
 ghost use Rattle.eevdf_fair_queue.specs.Fair.{charged_by};
+ghost use Rattle.eevdf_fair_queue.specs.Owed.{charged_from};
+ghost use Rattle.eevdf_fair_queue.specs.ShareClock as clock;
 
 use crate::fair_queue::FairQueue;
 use eevdf_queue::{TaskId, TickAnswer, YieldAnswer};
@@ -24,6 +26,7 @@ impl FairQueue {
         ensures after { self.new.queue.state ≡ after_pick self.old.queue.state }
         ensures seen { self.new.queue ≡ view_after_pick self.old.queue }
         ensures bounds { self.new.bounds ≡ bounds.picked self.old.bounds }
+        ensures clock { self.new.clock ≡ self.old.clock }
     {
         self.bounds.pick(&mut self.queue)
     }
@@ -36,8 +39,13 @@ impl FairQueue {
         ensures after { self.new.queue.state ≡ (ticks.tick self.old.queue.state ns).1 }
         ensures pick_depth { self.new.queue.pick_depth ≡ self.old.queue.pick_depth }
         ensures bounds { self.new.bounds ≡ charged_by self.old.bounds ns result self.new.queue.state }
+        ensures clock { self.new.clock ≡ charged_from self.old ns result }
     {
-        self.bounds.tick(&mut self.queue, ns)
+        let answer = self.bounds.tick(&mut self.queue, ns);
+        if let TickAnswer::Charged { .. } = answer {
+            self.clock.charge(ns, &self.queue);
+        }
+        answer
     }
 
     /// Lets a task run as [`Queue::adopt`](eevdf_queue::Queue::adopt) does. What it is charged is no turn then, and counts by where
@@ -47,6 +55,7 @@ impl FairQueue {
         ensures after { self.new.queue.state ≡ adopted self.old.queue.state task }
         ensures pick_depth { self.new.queue.pick_depth ≡ self.old.queue.pick_depth }
         ensures bounds { self.new.bounds ≡ bounds.adopted self.old.bounds result }
+        ensures clock { self.new.clock ≡ self.old.clock }
     {
         self.bounds.adopt(&mut self.queue, task)
     }
@@ -57,6 +66,7 @@ impl FairQueue {
         ensures after { self.new.queue.state ≡ (yields.yield_now self.old.queue.state).1 }
         ensures pick_depth { self.new.queue.pick_depth ≡ self.old.queue.pick_depth }
         ensures bounds { self.new.bounds ≡ self.old.bounds }
+        ensures clock { self.new.clock ≡ self.old.clock }
     {
         self.queue.yield_now()
     }
@@ -69,7 +79,10 @@ impl FairQueue {
         ensures pick_depth { self.new.queue.pick_depth ≡ self.old.queue.pick_depth }
         ensures depths { self.new.queue.depths ≡ self.old.queue.depths }
         ensures bounds { self.new.bounds ≡ bounds.lowered self.old.bounds result }
+        ensures clock { self.new.clock ≡ clock.lowered self.old.clock result }
     {
-        self.bounds.rebase(&mut self.queue)
+        let by = self.bounds.rebase(&mut self.queue);
+        self.clock.lower(by);
+        by
     }
 }
