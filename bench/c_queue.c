@@ -1,13 +1,17 @@
 /*
  * c_queue.c MIX TASKS TURNS: turns of calls of one queue through C, on the inputs of the program
  * queue_bench, and the same checksum of the answers (docs/speed.md has both). The mixes are
- * tick-pick, tick-sleep-pick-wake, and three that queue_bench hasn't. tick-run: a drawn task is
+ * tick-pick, tick-sleep-pick-wake, and some that queue_bench hasn't. tick-run: a drawn task is
  * made to run, as by a kernel that has chosen itself. pull-take-put: another queue, without tasks,
  * pulls the candidate, which goes back through a hand. pull-take-renumber-put: the hand is given a
- * number on its way, which is the task's own, since that is free where it goes.
+ * number on its way, which is the task's own, since that is free where it goes. pick: picks, each
+ * 1024th of them after a tick, since a turn would else take a whole number of instructions.
+ * fair-pick and fair-tick-pick: the calls of pick and tick-pick beside bounds; their answers are
+ * the same, and so is the checksum.
  */
 #include <eevdf.h>
 #include <inttypes.h>
+#include <stdbool.h>
 #include <stdio.h>
 #include <stdlib.h>
 #include <string.h>
@@ -18,6 +22,7 @@ static const uint64_t slices[] = { 100000,  300000,  700000,  1000000,  2000000,
 				   3000000, 3000000, 6000000, 10000000, 20000000, 100000000 };
 static eevdf_queue queue, other;
 static eevdf_hand hand;
+static eevdf_bounds bounds;
 static uint64_t state, sum, lengths[DRAWN], chosen[DRAWN], sleepers[2 * EEVDF_TASKS];
 static size_t length_at, first_sleeper, last_sleeper;
 static int64_t running;
@@ -41,13 +46,20 @@ static int64_t drawn_nice(void)
 	return kind < 15 ? (int64_t)drawn(21) - 10 : (int64_t)drawn(40) - 20;
 }
 
-static void admit(uint64_t task, uint64_t tasks)
+static void admit(uint64_t task, uint64_t tasks, bool is_fair)
 {
 	int64_t nice = drawn_nice();
 	uint64_t slice = slices[drawn(12)];
 	int64_t start = (int64_t)drawn(10000000);
 
-	eevdf_admit(&queue, task, tasks == 1 ? 0 : nice, tasks == 1 ? 3000000 : slice, start);
+	if (tasks == 1) {
+		nice = 0;
+		slice = 3000000;
+	}
+	if (is_fair)
+		eevdf_fair_admit(&bounds, &queue, task, nice, slice, start);
+	else
+		eevdf_admit(&queue, task, nice, slice, start);
 }
 
 /* Beside each length queue_bench draws a task, and a nice level for other mixes. */
@@ -66,16 +78,30 @@ static inline void add(int64_t answer)
 }
 
 /* 0: nobody runs. 1: it is charged. 2: its request is used up too. 3: it can't be charged. */
+static inline void add_tick(int64_t answer)
+{
+	add(answer >= 0 ? answer + 1 : answer == EEVDF_ABSENT ? 0 : 3);
+}
+
 static inline void tick(uint64_t ns)
 {
-	int64_t answer = eevdf_tick(&queue, ns);
+	add_tick(eevdf_tick(&queue, ns));
+}
 
-	add(answer >= 0 ? answer + 1 : answer == EEVDF_ABSENT ? 0 : 3);
+static inline void fair_tick(uint64_t ns)
+{
+	add_tick(eevdf_fair_tick(&bounds, &queue, ns));
 }
 
 static inline void pick(void)
 {
 	running = eevdf_pick(&queue);
+	add(running >= 0 ? running : -1);
+}
+
+static inline void fair_pick(void)
+{
+	running = eevdf_fair_pick(&bounds, &queue);
 	add(running >= 0 ? running : -1);
 }
 
@@ -128,17 +154,46 @@ static void pull_take_renumber_put(void)
 	eevdf_put(&queue, &hand);
 }
 
-static void open_queue(uint64_t tasks)
+static void warm_up(bool is_fair)
+{
+	running = is_fair ? eevdf_fair_pick(&bounds, &queue) : eevdf_pick(&queue);
+	for (size_t at = 0; at < WARM_UP; at++) {
+		if (is_fair) {
+			fair_tick(lengths[at]);
+			fair_pick();
+		} else {
+			tick(lengths[at]);
+			pick();
+		}
+	}
+}
+
+static void open_queue(uint64_t tasks, bool is_fair)
 {
 	state = 0x45455644462d3031u + tasks;
 	eevdf_open(&queue);
+	eevdf_fair_open(&bounds);
 	for (uint64_t task = 0; task < tasks; task++)
-		admit(task, tasks);
+		admit(task, tasks, is_fair);
 	draw_lengths(tasks);
-	running = eevdf_pick(&queue);
-	for (size_t at = 0; at < WARM_UP; at++) {
-		tick(lengths[at]);
+	warm_up(is_fair);
+}
+
+static void picks(uint64_t turns)
+{
+	for (; turns > 0; turns--) {
+		if (turns % 1024 == 0)
+			tick(length());
 		pick();
+	}
+}
+
+static void fair_picks(uint64_t turns)
+{
+	for (; turns > 0; turns--) {
+		if (turns % 1024 == 0)
+			fair_tick(length());
+		fair_pick();
 	}
 }
 
@@ -150,12 +205,21 @@ int main(int count, char **words)
 		return 2;
 	tasks = strtoul(words[2], NULL, 10);
 	turns = strtoul(words[3], NULL, 10);
-	open_queue(tasks);
+	open_queue(tasks, strncmp(words[1], "fair-", 5) == 0);
 	if (strcmp(words[1], "tick-pick") == 0) {
 		for (; turns > 0; turns--) {
 			tick(length());
 			pick();
 		}
+	} else if (strcmp(words[1], "fair-tick-pick") == 0) {
+		for (; turns > 0; turns--) {
+			fair_tick(length());
+			fair_pick();
+		}
+	} else if (strcmp(words[1], "pick") == 0) {
+		picks(turns);
+	} else if (strcmp(words[1], "fair-pick") == 0) {
+		fair_picks(turns);
 	} else if (strcmp(words[1], "tick-run") == 0) {
 		for (; turns > 0; turns--)
 			tick_run();

@@ -14,14 +14,14 @@
  * one a nanosecond, and a heavier one fewer; virtual times and lags have a sign. A task is a number
  * from 0 to EEVDF_TASKS - 1 that the caller chooses.
  *
- * WHO OWNS WHAT. The caller owns the bytes of queues, hands and bounds. An opened queue or hand may
- * hold memory of its tasks: close it before its bytes are used for anything else. No call keeps a
- * pointer to them, and none reads a queue's bytes but those that are given it.
+ * WHO OWNS WHAT. The caller owns the bytes of queues, hands, bounds and shares. An opened queue or
+ * hand may hold memory of its tasks: close it before its bytes are used for anything else. No call
+ * keeps a pointer to them, and none reads a queue's bytes but those that are given it.
  *
- * MOVING. Between two calls a queue, a hand or bounds may be moved: the bytes are copied to others
- * of the caller's own, aligned to 16. It is the same queue or hand there, or they are the same
- * bounds. The bytes that were left are the caller's again, for anything; no call is given them as
- * what they were any more, until they are opened anew.
+ * MOVING. Between two calls a queue, a hand, bounds or shares may be moved: the bytes are copied to
+ * others of the caller's own, aligned to 16. It is the same queue or hand there, or they are the
+ * same bounds or shares. The bytes that were left are the caller's again, for anything; no call is
+ * given them as what they were any more, until they are opened anew.
  *
  * WHAT C MUST KEEP. Each call tests its numbers, and who is here and who runs. It can't test its
  * pointers, so these are left to C:
@@ -31,15 +31,16 @@
  *   - from eevdf_open to eevdf_close only these calls read or write the queue's bytes, one call at
  *     a time, but that it may be moved, and there are no two copies of which both are used; the
  *     same holds of a hand from eevdf_hand_open to eevdf_hand_close;
- *   - `bounds` points to bounds that eevdf_fair_open has opened and nobody else uses during the
- *     call; where they are opened, to so many bytes of the caller's own, aligned to 16, that are no
- *     part of a queue or a hand;
+ *   - `bounds` points to bounds that eevdf_fair_open has opened, and `shares` to shares that
+ *     eevdf_fair_share_open has, and nobody else uses them during the call; where they are opened,
+ *     to so many bytes of the caller's own, aligned to 16, that are no part of a queue, a hand or
+ *     one another;
  *   - `block` points to an eevdf_block of the caller's own that nobody else uses during the call;
  *     its `at` is NULL, or leads to EEVDF_TASK_SIZE bytes of the caller's own, aligned to 8;
- *   - `out`, `time`, `lag` and `by` point to an object of the caller's own that is no part of a
- *     queue, a hand or bounds, and that nobody else uses during the call. The proofs take it for
- *     initialised, whatever its bytes: write to it once, as by `int64_t time = 0;`, before the
- *     first call;
+ *   - `out`, `time`, `lag`, `by`, `mark` and `ns` point to an object of the caller's own that is no
+ *     part of a queue, a hand, bounds or shares, and that nobody else uses during the call. The
+ *     proofs take it for initialised, whatever its bytes: write to it once, as by
+ *     `int64_t time = 0;`, before the first call;
  *   - the two functions for memory (below) do what is said there.
  *
  * LOCKS. "The queue's lock" is whatever makes sure that nobody else uses the queue during the call:
@@ -138,10 +139,11 @@ extern "C" {
 #define EEVDF_VERSION \
 	(EEVDF_VERSION_MAJOR * 1000000 + EEVDF_VERSION_MINOR * 1000 + EEVDF_VERSION_PATCH)
 
-/* The bytes of a queue, of a hand and of bounds, and of the block of memory that each task has. */
+/* The bytes of a queue, a hand, bounds, shares, and the block of memory that each task has. */
 #define EEVDF_QUEUE_SIZE 24688
 #define EEVDF_HAND_SIZE 16
 #define EEVDF_BOUNDS_SIZE 32
+#define EEVDF_SHARES_SIZE 64
 #define EEVDF_TASK_SIZE 152
 
 /* The limits of what a call takes; a number beyond them is answered INVALID. */
@@ -187,6 +189,14 @@ typedef struct eevdf_bounds {
 	EEVDF_ALIGNED unsigned char bytes[EEVDF_BOUNDS_SIZE];
 } eevdf_bounds;
 
+/*
+ * Shares lie beside a queue and its bounds, and tell what its tasks lack of their shares of the
+ * CPU. The calls that begin with eevdf_fair_share_ keep them.
+ */
+typedef struct eevdf_shares {
+	EEVDF_ALIGNED unsigned char bytes[EEVDF_SHARES_SIZE];
+} eevdf_shares;
+
 /* A block of memory for one task, which `at` leads to, or none, where it is NULL. */
 typedef struct eevdf_block {
 	void *at;
@@ -222,6 +232,9 @@ typedef struct eevdf_place {
 	uint64_t low;
 } eevdf_place;
 
+/* A moment from which on the share of a task is told, a number of 128 bits as a place is. */
+typedef eevdf_place eevdf_share_mark;
+
 /*
  * What a task in a hand has: its number, its nice level, its slice in ns, its virtual runtime where
  * it left (of one that slept, the virtual time there), and its lag.
@@ -237,6 +250,7 @@ typedef struct eevdf_parcel {
 EEVDF_ASSERT(sizeof(eevdf_queue) == EEVDF_QUEUE_SIZE, "a queue has padding");
 EEVDF_ASSERT(sizeof(eevdf_hand) == EEVDF_HAND_SIZE, "a hand has padding");
 EEVDF_ASSERT(sizeof(eevdf_bounds) == EEVDF_BOUNDS_SIZE, "bounds have padding");
+EEVDF_ASSERT(sizeof(eevdf_shares) == EEVDF_SHARES_SIZE, "shares have padding");
 EEVDF_ASSERT(sizeof(eevdf_block) == 8, "a block has padding");
 EEVDF_ASSERT(sizeof(eevdf_entry) == 32, "an entry has padding");
 EEVDF_ASSERT(sizeof(eevdf_sleeper) == 24, "what is kept of a sleeping task has padding");
@@ -303,6 +317,12 @@ int64_t eevdf_hand_size(void);
  * Lock: none. Interrupts: yes.
  */
 int64_t eevdf_bounds_size(void);
+
+/*
+ * The bytes of shares in the library, as EEVDF_SHARES_SIZE is that of the header.
+ * Lock: none. Interrupts: yes.
+ */
+int64_t eevdf_shares_size(void);
 
 /*
  * Opens a queue in the caller's bytes: empty, at the virtual time 0. Takes no memory. Opening one
@@ -722,6 +742,53 @@ int64_t eevdf_fair_lateness_bound(const eevdf_bounds *bounds, const eevdf_queue 
  */
 int64_t eevdf_fair_lateness_bound_of(const eevdf_bounds *bounds, const eevdf_queue *queue,
 				     uint64_t task, int64_t *by);
+
+/*
+ * Opens shares in the caller's bytes, for any queue. Takes no memory, and shares needn't be closed.
+ * By them the queue knows at every moment how many nanoseconds a task lacks of its share of the
+ * CPU, however many tasks come and go, and however short ticks are. Of each nanosecond that a tick
+ * charges, a runnable task has its weight over what eevdf_load answers then.
+ * Two calls keep them: eevdf_fair_share_tick and eevdf_fair_share_rebase, which stand for
+ * eevdf_fair_tick and eevdf_fair_rebase, and do and answer the same. After a tick or a rebase past
+ * them they are opened anew. Of all other calls they needn't know.
+ * Lock: the queue's. Interrupts: yes.
+ */
+void eevdf_fair_share_open(eevdf_shares *shares);
+
+/*
+ * As eevdf_fair_tick, and each runnable task has its share of the time.
+ * Lock: the queue's. Interrupts: yes.
+ * INVALID: ns is out of its limits. ABSENT: nobody runs. RANGE: its runtime or deadline would leave
+ * the range.
+ */
+int64_t eevdf_fair_share_tick(eevdf_shares *shares, eevdf_bounds *bounds, eevdf_queue *queue,
+			      uint64_t ns);
+
+/*
+ * As eevdf_fair_rebase, and lowers the shares with the virtual times. Answers 0.
+ * Lock: the queue's. Interrupts: yes.
+ */
+int64_t eevdf_fair_share_rebase(eevdf_shares *shares, eevdf_bounds *bounds, eevdf_queue *queue,
+				int64_t *by);
+
+/*
+ * Writes a mark of this moment to `mark`, from which on a task has had nothing of its share, and
+ * lacks nothing. It holds while the task stays runnable here with its nice level: where it slept,
+ * was moved or got another level, it is marked again. Answers 0. On an error `mark` isn't touched.
+ * Lock: the queue's. Interrupts: yes. INVALID: no number of a task. ABSENT: it isn't runnable here.
+ * RANGE: the shares have left their range, which takes more than 100 years.
+ */
+int64_t eevdf_fair_share_mark(const eevdf_shares *shares, const eevdf_queue *queue, uint64_t task,
+			      eevdf_share_mark *mark);
+
+/*
+ * Writes to `ns` how many nanoseconds a task lacks of its share since a mark, at most. Answers 0.
+ * On an error `ns` isn't touched.
+ * Lock: the queue's. Interrupts: yes. INVALID: no number of a task. ABSENT: it isn't runnable here.
+ * RANGE: the shares or the mark is out of range, or the number is 2^63 or more.
+ */
+int64_t eevdf_fair_share_bound(const eevdf_shares *shares, const eevdf_queue *queue, uint64_t task,
+			       const eevdf_share_mark *mark, int64_t *ns);
 
 /*
  * How many tasks are runnable, of which the running one is one.

@@ -16,11 +16,13 @@ import kernel
 import kernel_object
 import linked
 import linux
+import loops
 import memory_names
 import object_file
 import rust
 import sched_ext
 import sequences
+import simulated
 from tools import TOP, Tools, fault_of, run
 
 C_ARCHIVES = TOP / "tools" / "c_archives"
@@ -77,10 +79,12 @@ def main():
     for part in (header, kernel_object if asked.module else object_file, callers, examples, installed, memory_names, rust, kernel):
         part.check(tools)
     sequences.check(tools, asked.seed)
+    loops.check(tools, asked.seed)
     if asked.module:
         linked.check(tools)
         interrupted.check(tools, asked.seed)
         linux.check(tools)
+        simulated.check(tools)
         sched_ext.check(tools)
     sys.exit(tools.checks.end())
 

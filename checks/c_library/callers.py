@@ -21,6 +21,9 @@ def check_checksum(tools):
     fault = fault or fault_of(made)
     other = made and made.stdout != wanted and f"{made.stdout.strip()}, where queue_bench has {wanted.strip()}"
     tools.checks.look("bench/c_queue.c has the checksum of queue_bench", fault or other)
+    if fault is None:
+        alone, beside = (run([program, mix, "64", "2000"]).stdout for mix in ("tick-pick", "fair-tick-pick"))
+        tools.checks.look("bench/c_queue.c has one checksum with bounds and without", None if alone == beside else f"{alone} and {beside}")
 
 
 def check(tools):

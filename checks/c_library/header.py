@@ -57,6 +57,7 @@ SIZES = (
     ("opened.rt", "Opened", "EEVDF_QUEUE_SIZE"),
     ("hand.rt", "Hand", "EEVDF_HAND_SIZE"),
     ("fair_bounds.rt", "FairBounds", "EEVDF_BOUNDS_SIZE"),
+    ("fair_shares.rt", "FairShares", "EEVDF_SHARES_SIZE"),
 )
 # The structs with fields that C reads, and the names of their types in C.
 STRUCTS = (

@@ -10,8 +10,9 @@ from object_file import declared, difference
 from tools import TOP, fault_of, run
 
 FOLDER = TOP / "bindings" / "rust"
-# The calls that it makes others in the place of: they ask for memory, or give it back, by a name of the linker's.
-BY_NAMES = {"eevdf_admit", "eevdf_end", "eevdf_fair_admit"}
+# The calls that it makes others in the place of: they ask for memory, or give it back, by a name of the linker's, or are those of bounds
+# without shares.
+LEFT_OUT = {"eevdf_admit", "eevdf_end", "eevdf_fair_admit", "eevdf_fair_tick", "eevdf_fair_rebase"}
 # The structs with fields, by the file that has them, and their names in C.
 STRUCTS = (
     ("queue.rs", "Entry", "eevdf_entry"),
@@ -26,14 +27,14 @@ def source(name):
 
 
 def numbers_of_header():
-    """The sizes of a queue, a hand and bounds, and the code of each error, by name."""
+    """The sizes of a queue, a hand, bounds and shares, and the code of each error, by name."""
     header = (TOP / "include" / "eevdf.h").read_text()
-    sizes = re.findall(r"^#define EEVDF_(QUEUE|HAND|BOUNDS)_SIZE (\d+)$", header, re.MULTILINE)
+    sizes = re.findall(r"^#define EEVDF_(QUEUE|HAND|BOUNDS|SHARES)_SIZE (\d+)$", header, re.MULTILINE)
     return {*sizes, *re.findall(r"^\s+EEVDF_(\w+) = (-\d+)", header, re.MULTILINE)}
 
 
 def numbers_of_crate():
-    sizes = re.findall(r"struct (Queue|Hand|Bounds)Memory\(.*MaybeUninit<\[u8; (\d+)\]>", source("memory.rs"))
+    sizes = re.findall(r"struct (Queue|Hand|Bounds|Shares)Memory\(.*MaybeUninit<\[u8; (\d+)\]>", source("memory.rs"))
     codes = [(variant, code) for code, variant in re.findall(r"(-\d+) => Error::(\w+)", source("error.rs"))]
     # every other code is taken for this one
     codes += [(variant, "-22") for variant in re.findall(r"\b_ => Error::(\w+)", source("error.rs"))]
@@ -62,7 +63,7 @@ def other_version():
 
 def check_names(tools):
     calls = set(re.findall(r"pub fn (eevdf_\w+)\(", source("calls.rs")))
-    tools.checks.look("bindings/rust has the header's calls", difference(calls, declared() - BY_NAMES))
+    tools.checks.look("bindings/rust has the header's calls", difference(calls, declared() - LEFT_OUT))
     tools.checks.look("bindings/rust has the header's sizes and codes", difference(numbers_of_crate(), numbers_of_header()))
     tools.checks.look("bindings/rust has the header's version", other_version())
     other = [name for file, name, in_c in STRUCTS if fields_of_source(source(file), name) != fields_of_header(in_c)]

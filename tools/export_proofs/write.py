@@ -15,7 +15,7 @@ ROOT = Path(__file__).resolve().parents[2]
 CRATE = "eevdf_c"
 HEAD = "-- Written by tools/export_proofs/write.py.\n"
 # The exports that write into room. Only their bodies are more than a call, and have proofs by hand.
-BY_HAND = {"eevdf_open", "eevdf_hand_open", "eevdf_fair_open"}
+BY_HAND = {"eevdf_open", "eevdf_hand_open", "eevdf_fair_open", "eevdf_fair_share_open"}
 
 
 def names_of_steps(folder):

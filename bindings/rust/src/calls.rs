@@ -1,4 +1,4 @@
-//! The calls of eevdf.h, but for those that take memory by a name of the linker's.
+//! The calls of eevdf.h, but for those that take memory by a name of the linker's, and those for a queue with bounds and no shares.
 
 use crate::hand::Parcel;
 use crate::queue::{Entry, Sleeper};
@@ -10,9 +10,9 @@ pub struct Block {
     pub at: *mut c_void,
 }
 
-/// The place of a task that dozes, in two halves.
+/// The place of a task that dozes, or a mark of its share, in two halves.
 #[repr(C)]
-#[derive(Default)]
+#[derive(Clone, Copy, PartialEq, Eq, Debug, Default)]
 pub struct Place {
     pub high: i64,
     pub low: u64,
@@ -23,6 +23,7 @@ extern "C" {
     pub fn eevdf_queue_size() -> i64;
     pub fn eevdf_hand_size() -> i64;
     pub fn eevdf_bounds_size() -> i64;
+    pub fn eevdf_shares_size() -> i64;
     pub fn eevdf_open(queue: *mut c_void);
     pub fn eevdf_close(queue: *mut c_void);
     pub fn eevdf_admit_in(queue: *mut c_void, block: *mut Block, task: u64, nice: i64, slice_ns: u64, start: i64) -> i64;
@@ -57,7 +58,6 @@ extern "C" {
     pub fn eevdf_fair_open(bounds: *mut c_void);
     pub fn eevdf_fair_pick(bounds: *mut c_void, queue: *mut c_void) -> i64;
     pub fn eevdf_fair_run(bounds: *mut c_void, queue: *mut c_void, task: u64) -> i64;
-    pub fn eevdf_fair_tick(bounds: *mut c_void, queue: *mut c_void, ns: u64) -> i64;
     pub fn eevdf_fair_admit_in(
         bounds: *mut c_void,
         queue: *mut c_void,
@@ -71,9 +71,13 @@ extern "C" {
     pub fn eevdf_fair_wake(bounds: *mut c_void, queue: *mut c_void, task: u64) -> i64;
     pub fn eevdf_fair_renice(bounds: *mut c_void, queue: *mut c_void, task: u64, nice: i64) -> i64;
     pub fn eevdf_fair_set(bounds: *mut c_void, queue: *mut c_void, task: u64, nice: i64, slice_ns: u64) -> i64;
-    pub fn eevdf_fair_rebase(bounds: *mut c_void, queue: *mut c_void, by: *mut i64) -> i64;
     pub fn eevdf_fair_lateness_bound(bounds: *const c_void, queue: *const c_void) -> i64;
     pub fn eevdf_fair_lateness_bound_of(bounds: *const c_void, queue: *const c_void, task: u64, by: *mut i64) -> i64;
+    pub fn eevdf_fair_share_open(shares: *mut c_void);
+    pub fn eevdf_fair_share_tick(shares: *mut c_void, bounds: *mut c_void, queue: *mut c_void, ns: u64) -> i64;
+    pub fn eevdf_fair_share_rebase(shares: *mut c_void, bounds: *mut c_void, queue: *mut c_void, by: *mut i64) -> i64;
+    pub fn eevdf_fair_share_mark(shares: *const c_void, queue: *const c_void, task: u64, mark: *mut Place) -> i64;
+    pub fn eevdf_fair_share_bound(shares: *const c_void, queue: *const c_void, task: u64, mark: *const Place, ns: *mut i64) -> i64;
     pub fn eevdf_len(queue: *const c_void) -> i64;
     pub fn eevdf_load(queue: *const c_void) -> i64;
     pub fn eevdf_floor_time(queue: *const c_void, time: *mut i64) -> i64;

@@ -4,7 +4,7 @@ use crate::calls;
 use crate::check_library;
 use crate::error::{checked, done, Result};
 use crate::hand::Hand;
-use crate::memory::{BoundsMemory, QueueMemory, TaskMemory};
+use crate::memory::{BoundsMemory, QueueMemory, SharesMemory, TaskMemory};
 use crate::nanoseconds::Nanoseconds;
 use crate::queue::Queue;
 use core::ffi::c_void;
@@ -12,8 +12,13 @@ use core::fmt;
 use core::ops::Deref;
 use core::ptr::{null_mut, NonNull};
 
-/// A [`Queue`] with bounds beside it, which each of its calls keeps: how far its tasks can be past one another's deadlines. Each call does
-/// and answers what the queue's of the same name does; what is only read is read of the queue.
+/// A moment from which on the share of a task is told.
+#[derive(Clone, Copy, PartialEq, Eq, Debug)]
+pub struct ShareMark(calls::Place);
+
+/// A [`Queue`] with bounds and shares beside it, which each of its calls keeps: how far its tasks can be past one another's deadlines, and
+/// what they lack of their shares of the CPU. Each call does and answers what the queue's of the same name does; what is only read is read
+/// of the queue.
 ///
 /// ```
 /// use eevdf::{FairQueue, QueueMemory, TaskMemory};
@@ -37,25 +42,28 @@ use core::ptr::{null_mut, NonNull};
 pub struct FairQueue<'a> {
     queue: Queue<'a>,
     bounds: BoundsMemory,
+    shares: SharesMemory,
 }
 
-// SAFETY of all calls below: the bounds were opened, and are borrowed as the queue beside them is, of which they are no part.
+// SAFETY of all calls below: bounds and shares were opened, and are borrowed as the queue beside them is, of which they are no part.
 impl<'a> FairQueue<'a> {
     /// A queue without tasks, at the virtual time 0.
     ///
     /// # Panics
     ///
-    /// Where MAJOR or MINOR of the library that is linked, or the size of its queues, hands or bounds, isn't the crate's.
+    /// Where MAJOR or MINOR of the library that is linked, or the size of its queues, hands, bounds or shares, isn't the crate's.
     pub fn open(memory: &'a mut QueueMemory) -> FairQueue<'a> {
         FairQueue::beside(Queue::open(memory))
     }
 
-    /// Fresh bounds beside a queue in which nothing is runnable.
+    /// Fresh bounds and shares beside a queue in which nothing is runnable.
     fn beside(queue: Queue<'a>) -> FairQueue<'a> {
         check_library();
         let mut bounds = BoundsMemory::new();
+        let mut shares = SharesMemory::new();
         unsafe { calls::eevdf_fair_open(bounds.0.as_mut_ptr().cast()) };
-        FairQueue { queue, bounds }
+        unsafe { calls::eevdf_fair_share_open(shares.0.as_mut_ptr().cast()) };
+        FairQueue { queue, bounds, shares }
     }
 
     /// Where the bounds stand, and where the queue, for a call that changes them.
@@ -121,10 +129,11 @@ impl<'a> FairQueue<'a> {
         done(unsafe { calls::eevdf_fair_run(bounds, queue, task) })
     }
 
-    /// [`Queue::tick`]: the turn is longer by the charge.
+    /// [`Queue::tick`]: the turn is longer by the charge, and each runnable task has its share of the time.
     pub fn tick(&mut self, time: impl Into<Nanoseconds>) -> Result<bool> {
+        let shares = self.shares.0.as_mut_ptr().cast();
         let (bounds, queue) = self.places();
-        checked(unsafe { calls::eevdf_fair_tick(bounds, queue, time.into().0) }).map(|answer| answer == 1)
+        checked(unsafe { calls::eevdf_fair_share_tick(shares, bounds, queue, time.into().0) }).map(|answer| answer == 1)
     }
 
     /// [`Queue::yield_now`].
@@ -185,11 +194,12 @@ impl<'a> FairQueue<'a> {
         self.queue.begin(task, nice, slice)
     }
 
-    /// [`Queue::rebase`], and lowers the bounds with the virtual times.
+    /// [`Queue::rebase`], and lowers the bounds and the shares with the virtual times.
     pub fn rebase(&mut self) -> i64 {
         let mut by = 0;
+        let shares = self.shares.0.as_mut_ptr().cast();
         let (bounds, queue) = self.places();
-        unsafe { calls::eevdf_fair_rebase(bounds, queue, &mut by) };
+        unsafe { calls::eevdf_fair_share_rebase(shares, bounds, queue, &mut by) };
         by
     }
 
@@ -228,6 +238,29 @@ impl<'a> FairQueue<'a> {
         let bounds = self.bounds.0.as_ptr().cast();
         done(unsafe { calls::eevdf_fair_lateness_bound_of(bounds, self.queue.shared_place(), task, &mut by) })?;
         Ok(by)
+    }
+
+    /// Marks this moment for a task, which from now on has had nothing of its share of the CPU, and lacks nothing. It holds while the task
+    /// stays runnable here with its nice level.
+    ///
+    /// `Invalid`, or `Absent` where it isn't runnable here. `Range`, where the shares have left their range.
+    pub fn share_mark(&self, task: u64) -> Result<ShareMark> {
+        let mut mark = calls::Place::default();
+        let shares = self.shares.0.as_ptr().cast();
+        done(unsafe { calls::eevdf_fair_share_mark(shares, self.queue.shared_place(), task, &mut mark) })?;
+        Ok(ShareMark(mark))
+    }
+
+    /// How many nanoseconds a task lacks of its share of the CPU since a mark, at most. Its share of each nanosecond that was charged is its
+    /// weight over the load of then.
+    ///
+    /// `Invalid`, or `Absent` where it isn't runnable here. `Range`, where the shares, the mark or the number is out of range.
+    pub fn share_bound(&self, task: u64, mark: ShareMark) -> Result<u64> {
+        let mut ns = 0;
+        let shares = self.shares.0.as_ptr().cast();
+        done(unsafe { calls::eevdf_fair_share_bound(shares, self.queue.shared_place(), task, &mark.0, &mut ns) })?;
+        // what is answered isn't below 0
+        Ok(ns as u64)
     }
 }
 

@@ -38,7 +38,8 @@
 //!
 //! # How late a request can be
 //!
-//! A [`FairQueue`] is a queue that says at every moment how late its requests can be, whatever ticks are made and whoever comes and goes.
+//! A [`FairQueue`] is a queue that says at every moment how late its requests can be, and what its tasks lack of their shares of the CPU,
+//! whatever ticks are made and whoever comes and goes.
 //!
 //! # Errors
 //!
@@ -82,11 +83,13 @@ mod nanoseconds;
 mod queue;
 
 pub use error::{Error, Result};
-pub use fair_queue::FairQueue;
+pub use fair_queue::{FairQueue, ShareMark};
 pub use hand::{Hand, Parcel};
 pub use memory::{HandMemory, QueueMemory, TaskMemory};
 pub use nanoseconds::Nanoseconds;
 pub use queue::{Entry, Queue, Sleeper};
+
+use memory::{BoundsMemory, SharesMemory};
 
 /// The version of the library that the crate is written for.
 const VERSION: i64 = 7000;
@@ -97,13 +100,13 @@ const fn series(version: i64) -> i64 {
 }
 
 /// Sees that the library which is linked has the two numbers of [`VERSION`], since the structs are only of those, and that its queues,
-/// hands and bounds take as many bytes as they are given.
+/// hands, bounds and shares take as many bytes as they are given.
 fn check_library() {
     assert_eq!(series(version()), series(VERSION), "libeevdf.a is of another MAJOR or MINOR than the crate eevdf");
     // SAFETY: the calls have no condition
-    let sizes = unsafe { [calls::eevdf_queue_size(), calls::eevdf_hand_size(), calls::eevdf_bounds_size()] };
-    let given = [size_of::<QueueMemory>(), size_of::<HandMemory>(), size_of::<memory::BoundsMemory>()].map(|size| size as i64);
-    assert_eq!(sizes, given, "libeevdf.a has queues, hands or bounds of other sizes");
+    let sizes = unsafe { [calls::eevdf_queue_size(), calls::eevdf_hand_size(), calls::eevdf_bounds_size(), calls::eevdf_shares_size()] };
+    let given = [size_of::<QueueMemory>(), size_of::<HandMemory>(), size_of::<BoundsMemory>(), size_of::<SharesMemory>()];
+    assert_eq!(sizes, given.map(|size| size as i64), "libeevdf.a has queues, hands, bounds or shares of other sizes");
 }
 
 /// How many numbers there are for tasks, from 0 on.

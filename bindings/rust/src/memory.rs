@@ -22,6 +22,10 @@ pub struct HandMemory(pub(crate) MaybeUninit<[u8; 16]>);
 #[repr(C, align(16))]
 pub(crate) struct BoundsMemory(pub(crate) MaybeUninit<[u8; 32]>);
 
+/// The bytes of what a queue keeps of the shares of its tasks: 64.
+#[repr(C, align(16))]
+pub(crate) struct SharesMemory(pub(crate) MaybeUninit<[u8; 64]>);
+
 /// The bytes of a task that comes by [`Queue::admit_in`](crate::Queue::admit_in): 152 for the library, and a word of the crate's that says
 /// whether they are in a box of its own.
 #[repr(C, align(8))]
@@ -91,6 +95,13 @@ impl BoundsMemory {
     /// Bytes in which no bounds have been opened.
     pub(crate) const fn new() -> BoundsMemory {
         BoundsMemory(MaybeUninit::uninit())
+    }
+}
+
+impl SharesMemory {
+    /// Bytes in which no shares have been opened.
+    pub(crate) const fn new() -> SharesMemory {
+        SharesMemory(MaybeUninit::uninit())
     }
 }
 

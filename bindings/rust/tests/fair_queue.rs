@@ -36,6 +36,27 @@ fn a_run_is_no_turn() {
 }
 
 #[test]
+fn a_task_that_waits_lacks_its_share() {
+    let mut queue = fair_queue();
+    let marks = [0, 1].map(|task| queue.share_mark(task).unwrap());
+    assert_eq!(queue.pick(), Some(0));
+    assert_eq!(queue.share_bound(1, marks[1]), Ok(0));
+    assert_eq!(queue.tick(3 * MS), Ok(true));
+    // of 3 ms each of three tasks has 1 ms, and task 0 had them all
+    assert_eq!(queue.share_bound(1, marks[1]), Ok(1_000_000));
+    assert_eq!(queue.share_bound(0, marks[0]), Ok(0));
+    queue.end(2).unwrap();
+    assert_eq!(queue.rebase(), 1_500_000);
+    assert_eq!(queue.tick(2 * MS), Ok(false));
+    // and of 2 ms each of two has 1 ms
+    assert_eq!(queue.share_bound(1, marks[1]), Ok(2_000_000));
+    let later = queue.share_mark(1).unwrap();
+    assert_eq!(queue.share_bound(1, later), Ok(0));
+    assert_eq!(queue.share_bound(2, marks[1]), Err(Error::Absent));
+    assert_eq!(queue.share_mark(1024), Err(Error::Invalid));
+}
+
+#[test]
 fn an_error_leaves_the_bounds() {
     let mut queue = fair_queue();
     queue.pick();

@@ -34,6 +34,8 @@ static unsigned other_picks;
 static eevdf_queue queue, other;
 static eevdf_hand hand;
 static eevdf_bounds bounds;
+static eevdf_shares shares;
+static eevdf_share_mark mark;
 static const unsigned char *top;
 static uint64_t word = 1;
 static ucontext_t outside, inside;
@@ -178,6 +180,9 @@ static inline void turn_beside_bounds(void)
 	eevdf_fair_put(&bounds, &queue, &hand);
 	eevdf_fair_lateness_bound(&bounds, &queue);
 	eevdf_fair_lateness_bound_of(&bounds, &queue, task, &number);
+	eevdf_fair_share_tick(&shares, &bounds, &queue, 1 + drawn(3000000));
+	eevdf_fair_share_bound(&shares, &queue, task, &mark, &number);
+	eevdf_fair_share_mark(&shares, &queue, task, &mark);
 	eevdf_floor_time(&queue, &number);
 	eevdf_end_out(&queue, &block, task);
 	eevdf_fair_admit_in(&bounds, &queue, &block, task, (int64_t)drawn(40) - 20, 3000000, number);
@@ -185,6 +190,8 @@ static inline void turn_beside_bounds(void)
 	eevdf_fair_admit(&bounds, &queue, task, (int64_t)drawn(40) - 20, 3000000, number);
 	if (rebases && task == 0)
 		eevdf_fair_rebase(&bounds, &queue, &number);
+	if (rebases && task == 1)
+		eevdf_fair_share_rebase(&shares, &bounds, &queue, &number);
 }
 
 static void make_turns(void)
@@ -199,6 +206,8 @@ static void make_turns(void)
 			    (int64_t)drawn(10000000));
 	eevdf_fair_open(&bounds);
 	eevdf_bounds_size();
+	eevdf_fair_share_open(&shares);
+	eevdf_shares_size();
 	for (unsigned at = 0; at < TURNS; at++) {
 		turn();
 		turn_beside_bounds();

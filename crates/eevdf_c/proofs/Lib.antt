@@ -4,4 +4,5 @@ mod Few
 mod TaskCodes
 mod Pulling
 mod Fair
+mod Shares
 mod OtherCalls

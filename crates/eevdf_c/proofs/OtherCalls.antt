@@ -1,205 +1,147 @@
 -- Why bounds stay true through the calls that none beside them stands for.
-use Rattle.std.proofs.Common.{◌≡◌, ℕ, zero, suc, Bool, true, false, cond, Option, Some, None, Result, Ok, Err, refl, sym, subst}
-use Rattle.std.specs.Prelude.{ℤ, ◌+ℤ◌, ◌≤ℤ◌}
-use Rattle.std.specs.FinMap.{get, insert}
+use Rattle.std.proofs.Common.{◌≡◌, ℕ, zero, suc, Bool, true, false, cond, Option, Some, None, Result, Ok, Err, refl, subst}
+use Rattle.std.specs.Prelude.{ℤ}
+use Rattle.std.specs.FinMap.{get}
 use Rattle.eevdf_weight.specs.Limits.{checked_level, checked_slice}
-use Rattle.eevdf_queue.specs.{declared.entry.Entry.Entry, declared.sleeper.Sleeper.Sleeper, declared.refusal.Refusal.Refusal, State.State, State.Contents}
+use Rattle.eevdf_queue.specs.{declared.entry.Entry.Entry, declared.refusal.Refusal.Refusal, State.State, State.Contents}
 use Rattle.eevdf_queue.specs.{Numbers.checked_number, Numbers.number_limit, Pick.pick_of, Closing.take_sleeper, Closing.take_first, Closing.first_number}
-use Rattle.eevdf_queue.specs.{Ascending.sleeping_tasks, Leaving.nobody_runs, Leaving.carried_running, Leaving.leave_running, Leaving.without_entry}
-use Rattle.eevdf_queue.specs.{SliceChange.set_slice, SliceChange.set_entry_slice, SliceChange.set_sleeper_slice, Trying.is_here, Trying.tried, Offers.offer}
+use Rattle.eevdf_queue.specs.{Ascending.sleeping_tasks, Leaving.carried_running, Leaving.leave_running, Leaving.without_entry}
+use Rattle.eevdf_queue.specs.{Trying.is_here, Trying.tried, Offers.offer}
 use Rattle.eevdf_queue.specs.{Moves.sleeper_of, Placing.put as placed}
-use Rattle.eevdf_fairness.proofs.Growing.{found_at_after}
-use Rattle.eevdf_fair_queue.specs.{declared.bounds.Bounds.Bounds, Fair.IsFair, Fair.IsNear}
-use Rattle.eevdf_fair_queue.proofs.Keeping.{fewer, begin_keeps, asleep_keeps, taken_asleep_keeps, leave_keeps, leave_running_keeps, doze_keeps}
-use Rattle.eevdf_fair_queue.proofs.Running.{yield_keeps}
+use Rattle.eevdf_fair_queue.specs.{Fair.IsFair, Leavings.LeavingsKeepBounds}
 use Rattle.eevdf_c.specs.{Leaving.carried_out, Leaving.gone, Leaving.gone_by, Leaving.ended_below, Leaving.end_with, Leaving.end_by, Leaving.sleep_by, Leaving.sleep_with}
 use Rattle.eevdf_c.specs.{Codes.balanced, Leaving.doze_by, Pulls.is_lighter, Pulls.none_comes, Pulls.joined, Pulls.pull_offered, Pulls.pull_task_by, Pulls.waiting, SetSlice.set_slice_by, Attributes.begin_by}
 use Rattle.eevdf_c.specs.OtherCalls.{Keeps, OtherCallsKeepBounds}
 use Rattle.eevdf_c.specs.Blocks as blocks
 use Rattle.eevdf_c.specs.Hands as hands
 
-itself : (q : State) → Keeps q q
-itself q b fair = fair
+module _ (kept : LeavingsKeepBounds) where
+  -- ---- a task leaves
+  gone_keeps : (q : State) (task : ℕ) → Keeps q (gone q task)
+  gone_keeps q task b fair =
+      by (get q.runnable task) refl
+    where
+      by : (o : Option Entry) → get q.runnable task ≡ o → IsFair (gone_by q task o (get q.asleep task)) b
+      by (Some e) here = subst (λ (o : Option Entry). IsFair (without_entry q task o) b) here ((kept q b fair).leaves task)
+      by None here = (kept q b fair).leaves_asleep task
 
-no_runner : {A : Type 0} (t : ℕ) → None ≡ Some t → A
-no_runner t is = absurd (cc)
+  ends_by : (q : State) (number : Option ℕ) → Keeps q (end_by q number).1
+  ends_by q None b fair = fair
+  ends_by q (Some task) b fair =
+      by (carried_out q task)
+    where
+      by : (o : Option Contents) → IsFair (end_with q o (gone q task)).1 b
+      by None = fair
+      by (Some p) = gone_keeps q task b fair
 
-stops : (q : State) → Keeps q (nobody_runs q)
-stops q b fair = fewer q (nobody_runs q) b fair (λ t x at. at) (λ t runs. no_runner t runs)
+  ends_out_by : (q : State) (has : Bool) (number : Option ℕ) → Keeps q (blocks.end_by q has number).queue
+  ends_out_by q has None b fair = fair
+  ends_out_by q true (Some task) b fair = fair
+  ends_out_by q false (Some task) b fair =
+      by (carried_out q task)
+    where
+      by : (o : Option Contents) → IsFair (blocks.end_with q o (gone q task)).queue b
+      by None = fair
+      by (Some p) = gone_keeps q task b fair
 
--- ---- a task leaves
-gone_keeps : (q : State) (task : ℕ) → Keeps q (gone q task)
-gone_keeps q task b fair =
-    by (get q.runnable task) refl
-  where
-    by : (o : Option Entry) → get q.runnable task ≡ o → IsFair (gone_by q task o (get q.asleep task)) b
-    by (Some e) here = subst (λ (o : Option Entry). IsFair (without_entry q task o) b) here (leave_keeps q b task fair)
-    by None here = taken_asleep_keeps q b task fair
+  closes_below : (q : State) (k : ℕ) → Keeps q (ended_below q k)
+  unfolding ended_below
+  closes_below q zero b fair = fair
+  closes_below q (suc k) b fair = ends_by (ended_below q k) (Some k) b (closes_below q k b fair)
 
-ends_by : (q : State) (number : Option ℕ) → Keeps q (end_by q number).1
-ends_by q None b fair = fair
-ends_by q (Some task) b fair =
-    by (carried_out q task)
-  where
-    by : (o : Option Contents) → IsFair (end_with q o (gone q task)).1 b
-    by None = fair
-    by (Some p) = gone_keeps q task b fair
+  sleeps_by : (q : State) (number : Option ℕ) → Keeps q (sleep_by q number).1
+  sleeps_by q None b fair = fair
+  sleeps_by q (Some task) b fair =
+      by (carried_running q task)
+    where
+      by : (o : Option Contents) → IsFair (sleep_with q task o).1 b
+      by None = fair
+      by (Some p) = (kept (leave_running q task) b ((kept q b fair).leaves_running task)).put_asleep p
 
-ends_out_by : (q : State) (has : Bool) (number : Option ℕ) → Keeps q (blocks.end_by q has number).queue
-ends_out_by q has None b fair = fair
-ends_out_by q true (Some task) b fair = fair
-ends_out_by q false (Some task) b fair =
-    by (carried_out q task)
-  where
-    by : (o : Option Contents) → IsFair (blocks.end_with q o (gone q task)).queue b
-    by None = fair
-    by (Some p) = gone_keeps q task b fair
+  dozes_by : (q : State) (number : Option ℕ) → Keeps q (doze_by q number).1
+  dozes_by q None b fair = fair
+  dozes_by q (Some task) b fair = (kept q b fair).dozes task
 
-closes_below : (q : State) (k : ℕ) → Keeps q (ended_below q k)
-unfolding ended_below
-closes_below q zero b fair = fair
-closes_below q (suc k) b fair = ends_by (ended_below q k) (Some k) b (closes_below q k b fair)
+  -- ---- hands
+  takes_with : (q : State) (task : ℕ) (o : Option Contents) → Keeps q (hands.take_with q task o).queue
+  takes_with q task None b fair = fair
+  takes_with q task (Some p) b fair = gone_keeps q task b fair
 
-sleeps_by : (q : State) (number : Option ℕ) → Keeps q (sleep_by q number).1
-sleeps_by q None b fair = fair
-sleeps_by q (Some task) b fair =
-    by (carried_running q task)
-  where
-    by : (o : Option Contents) → IsFair (sleep_with q task o).1 b
-    by None = fair
-    by (Some p) = asleep_keeps (leave_running q task) b p (leave_running_keeps q b task fair)
+  takes_by : (q : State) (h : Option Contents) (number : Option ℕ) → Keeps q (hands.take_by q h number).queue
+  takes_by q h None b fair = fair
+  takes_by q (Some p) (Some task) b fair = fair
+  takes_by q None (Some task) b fair = takes_with q task (carried_out q task) b fair
 
-dozes_by : (q : State) (number : Option ℕ) → Keeps q (doze_by q number).1
-dozes_by q None b fair = fair
-dozes_by q (Some task) b fair = doze_keeps q b task fair
+  takes_sleeper : (q : State) (number : Option ℕ) → Keeps q (take_sleeper q number).1
+  takes_sleeper q None b fair = fair
+  takes_sleeper q (Some task) b fair = (kept q b fair).leaves_asleep task
 
--- ---- hands
-takes_with : (q : State) (task : ℕ) (o : Option Contents) → Keeps q (hands.take_with q task o).queue
-takes_with q task None b fair = fair
-takes_with q task (Some p) b fair = gone_keeps q task b fair
+  takes_first : (q : State) (number : Option ℕ) → Keeps q (take_first q number).1
+  takes_first q None b fair = takes_sleeper q (first_number (sleeping_tasks q)) b fair
+  takes_first q (Some task) b fair = (kept q b fair).leaves task
 
-takes_by : (q : State) (h : Option Contents) (number : Option ℕ) → Keeps q (hands.take_by q h number).queue
-takes_by q h None b fair = fair
-takes_by q (Some p) (Some task) b fair = fair
-takes_by q None (Some task) b fair = takes_with q task (carried_out q task) b fair
+  taken_any : (after : State) (o : Option Contents) → Keeps after (hands.take_any_with after o).queue
+  taken_any after None b fair = fair
+  taken_any after (Some p) b fair = fair
 
-takes_sleeper : (q : State) (number : Option ℕ) → Keeps q (take_sleeper q number).1
-takes_sleeper q None b fair = fair
-takes_sleeper q (Some task) b fair = taken_asleep_keeps q b task fair
+  takes_any : (q : State) (h : Option Contents) → Keeps q (hands.take_any q h).queue
+  takes_any q (Some p) b fair = fair
+  takes_any q None b fair =
+      taken_any (take_first q (pick_of q.runnable)).1 (take_first q (pick_of q.runnable)).0 b (takes_first q (pick_of q.runnable) b fair)
 
-takes_first : (q : State) (number : Option ℕ) → Keeps q (take_first q number).1
-takes_first q None b fair = takes_sleeper q (first_number (sleeping_tasks q)) b fair
-takes_first q (Some task) b fair = leave_keeps q b task fair
+  puts_where : (q : State) (p : Contents) (here : Bool) → Keeps q (hands.put_asleep_where q p here).queue
+  puts_where q p true b fair = fair
+  puts_where q p false b fair = (kept q b fair).put_asleep p
 
-taken_any : (after : State) (o : Option Contents) → Keeps after (hands.take_any_with after o).queue
-taken_any after None b fair = fair
-taken_any after (Some p) b fair = fair
+  puts_asleep : (q : State) (h : Option Contents) → Keeps q (hands.put_asleep q h).queue
+  puts_asleep q None b fair = fair
+  puts_asleep q (Some p) b fair = puts_where q p (is_here q p.task) b fair
 
-takes_any : (q : State) (h : Option Contents) → Keeps q (hands.take_any q h).queue
-takes_any q (Some p) b fair = fair
-takes_any q None b fair =
-    taken_any (take_first q (pick_of q.runnable)).1 (take_first q (pick_of q.runnable)).0 b (takes_first q (pick_of q.runnable) b fair)
+  -- ---- a task is pulled
+  joins : (q source : State) (p : Contents) (o : Result State Refusal) → Keeps source (joined q source p o).from
+  joins q source p (Ok after) b fair = (kept source b fair).leaves p.task
+  joins q source p (Err reason) b fair = fair
 
-puts_where : (q : State) (p : Contents) (here : Bool) → Keeps q (hands.put_asleep_where q p here).queue
-puts_where q p true b fair = fair
-puts_where q p false b fair = asleep_keeps q b p fair
+  pulled_where : (q source : State) (p : Contents) (o : Result State Refusal) (light : Bool)
+      → Keeps source (cond light (joined q source p o) (none_comes q source balanced)).from
+  pulled_where q source p o true b fair = joins q source p o b fair
+  pulled_where q source p o false b fair = fair
 
-puts_asleep : (q : State) (h : Option Contents) → Keeps q (hands.put_asleep q h).queue
-puts_asleep q None b fair = fair
-puts_asleep q (Some p) b fair = puts_where q p (is_here q p.task) b fair
+  pulled : (q source : State) (offered : Option Contents) → Keeps source (pull_offered q source offered).from
+  pulled q source None b fair = fair
+  pulled q source (Some p) b fair =
+      pulled_where q source p (tried q p.task (placed q p.task (sleeper_of p))) (is_lighter q p source) b fair
 
--- ---- a task is pulled
-joins : (q source : State) (p : Contents) (o : Result State Refusal) → Keeps source (joined q source p o).from
-joins q source p (Ok after) b fair = leave_keeps source b p.task fair
-joins q source p (Err reason) b fair = fair
+  pulled_by : (q source : State) (number : Option ℕ) → Keeps source (pull_task_by q source number).from
+  pulled_by q source None b fair = fair
+  pulled_by q source (Some task) b fair = pulled q source (waiting source task) b fair
 
-pulled_where : (q source : State) (p : Contents) (o : Result State Refusal) (light : Bool)
-    → Keeps source (cond light (joined q source p o) (none_comes q source balanced)).from
-pulled_where q source p o true b fair = joins q source p o b fair
-pulled_where q source p o false b fair = fair
+  -- ---- another slice, and a new beginning
+  sets_by : (q : State) (number slice : Option ℕ) → Keeps q (set_slice_by q number slice).1
+  sets_by q None slice b fair = fair
+  sets_by q (Some task) None b fair = fair
+  sets_by q (Some task) (Some slice) b fair = (kept q b fair).slices task slice
 
-pulled : (q source : State) (offered : Option Contents) → Keeps source (pull_offered q source offered).from
-pulled q source None b fair = fair
-pulled q source (Some p) b fair =
-    pulled_where q source p (tried q p.task (placed q p.task (sleeper_of p))) (is_lighter q p source) b fair
+  begins_by : (q : State) (number : Option ℕ) (nice : Option ℤ) (slice : Option ℕ) → Keeps q (begin_by q number nice slice).1
+  begins_by q None nice slice b fair = fair
+  begins_by q (Some task) None slice b fair = fair
+  begins_by q (Some task) (Some nice) None b fair = fair
+  begins_by q (Some task) (Some nice) (Some slice) b fair = (kept q b fair).begins task nice slice
 
-pulled_by : (q source : State) (number : Option ℕ) → Keeps source (pull_task_by q source number).from
-pulled_by q source None b fair = fair
-pulled_by q source (Some task) b fair = pulled q source (waiting source task) b fair
-
--- ---- another slice
--- an entry of the queue that differs in its slice alone
-record IsLike (q : State) (t : ℕ) (x : Entry) : Type 0 where
-  entry : Entry
-  here : get q.runnable t ≡ Some entry
-  same_v : x.v ≡ entry.v
-  same_d : x.d ≡ entry.d
-
-all_like : (q r : State) (b : Bounds) → IsFair q b → ((t : ℕ) (x : Entry) → get r.runnable t ≡ Some x → IsLike q t x)
-    → ((t : ℕ) → r.running ≡ Some t → q.running ≡ Some t) → IsFair r b
-all_like q r b fair like ran = record {
-  due = λ t x at.
-      let e = like t x at in
-      subst (λ (z : ℤ). z ≤ℤ x.d) (sym e.same_v) (subst (λ (z : ℤ). e.entry.v ≤ℤ z) (sym e.same_d) (fair.due t e.entry e.here));
-  longest = fair.longest;
-  near = λ t u x y at there.
-      let e = like t x at in
-      let f = like u y there in
-      subst (λ (z : ℤ). IsNear b z y.d) (sym e.same_v)
-      (subst (λ (z : ℤ). IsNear b e.entry.v z) (sym f.same_d) (fair.near t u e.entry f.entry e.here f.here));
-  turn = λ turn is. record {
-    some = (fair.turn turn is).some;
-    past = λ t u x y runs at there.
-        let e = like t x at in
-        let f = like u y there in
-        subst (λ (z : ℤ). z ≤ℤ (y.d +ℤ turn)) (sym e.same_v)
-        (subst (λ (z : ℤ). e.entry.v ≤ℤ (z +ℤ turn)) (sym f.same_d) ((fair.turn turn is).past t u e.entry f.entry (ran t runs) e.here f.here));
-  };
-}
-
-sets_sleeper : (q : State) (task slice : ℕ) (o : Option Sleeper) → Keeps q (set_sleeper_slice q task slice o)
-sets_sleeper q task slice None b fair = fair
-sets_sleeper q task slice (Some s) b fair = fewer q _ b fair (λ t x at. at) (λ t runs. runs)
-
-sets : (q : State) (task slice : ℕ) → Keeps q (set_slice q task slice)
-sets q task slice b fair =
-    by (get q.runnable task) refl
-  where
-    as_it_is : (t : ℕ) (x : Entry) → get q.runnable t ≡ Some x → IsLike q t x
-    as_it_is t x at = record { entry = x; here = at; same_v = refl; same_d = refl }
-
-    by : (o : Option Entry) → get q.runnable task ≡ o → IsFair (set_entry_slice q task slice o) b
-    by None here = sets_sleeper q task slice (get q.asleep task) b fair
-    by (Some e) here =
-        all_like q (record q { runnable = insert q.runnable task (record e { slice = slice }) }) b fair
-        (found_at_after (IsLike q) q.runnable task (record e { slice = slice })
-        (record { entry = e; here = here; same_v = refl; same_d = refl }) as_it_is) (λ t runs. runs)
-
-sets_by : (q : State) (number slice : Option ℕ) → Keeps q (set_slice_by q number slice).1
-sets_by q None slice b fair = fair
-sets_by q (Some task) None b fair = fair
-sets_by q (Some task) (Some slice) b fair = sets q task slice b fair
-
-begins_by : (q : State) (number : Option ℕ) (nice : Option ℤ) (slice : Option ℕ) → Keeps q (begin_by q number nice slice).1
-begins_by q None nice slice b fair = fair
-begins_by q (Some task) None slice b fair = fair
-begins_by q (Some task) (Some nice) None b fair = fair
-begins_by q (Some task) (Some nice) (Some slice) b fair = begin_keeps q b task nice slice fair
-
-pub other_calls_keep_bounds : OtherCallsKeepBounds
-other_calls_keep_bounds = record {
-  stops = stops;
-  yields = λ q b fair. yield_keeps q b fair;
-  sleeps = λ q number. sleeps_by q (checked_number number);
-  dozes = λ q number. dozes_by q (checked_number number);
-  ends = λ q number. ends_by q (checked_number number);
-  ends_out = λ q has number. ends_out_by q has (checked_number number);
-  closes = λ q. closes_below q number_limit;
-  takes = λ q h number. takes_by q h (checked_number number);
-  takes_any = takes_any;
-  puts_asleep = puts_asleep;
-  is_pulled_from = λ q source. pulled q source (offer source);
-  is_pulled_from_by_name = λ q source number. pulled_by q source (checked_number number);
-  sets_slice = λ q number ns. sets_by q (checked_number number) (checked_slice ns);
-  begins = λ q number level ns. begins_by q (checked_number number) (checked_level level) (checked_slice ns);
-}
+  pub other_calls_keep_bounds : OtherCallsKeepBounds
+  other_calls_keep_bounds = record {
+    stops = λ q b fair. (kept q b fair).stops;
+    yields = λ q b fair. (kept q b fair).yields;
+    sleeps = λ q number. sleeps_by q (checked_number number);
+    dozes = λ q number. dozes_by q (checked_number number);
+    ends = λ q number. ends_by q (checked_number number);
+    ends_out = λ q has number. ends_out_by q has (checked_number number);
+    closes = λ q. closes_below q number_limit;
+    takes = λ q h number. takes_by q h (checked_number number);
+    takes_any = takes_any;
+    puts_asleep = puts_asleep;
+    is_pulled_from = λ q source. pulled q source (offer source);
+    is_pulled_from_by_name = λ q source number. pulled_by q source (checked_number number);
+    sets_slice = λ q number ns. sets_by q (checked_number number) (checked_slice ns);
+    begins = λ q number level ns. begins_by q (checked_number number) (checked_level level) (checked_slice ns);
+  }

@@ -20,6 +20,7 @@ pub mod ParcelOut
 pub mod Errors
 pub mod Blocks
 pub mod Fair
+pub mod Shares
 pub mod OtherCalls
 pub mod Memory
 pub mod Sizes

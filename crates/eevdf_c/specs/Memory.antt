@@ -16,7 +16,9 @@ use Rattle.eevdf_c.specs.contracts.opened.Opened as opened_type
 use Rattle.eevdf_c.specs.contracts.hand.Hand as hand_type
 use Rattle.eevdf_c.specs.contracts.given_block.GivenBlock as block_type
 use Rattle.eevdf_c.specs.contracts.fair_bounds.FairBounds as bounds_type
+use Rattle.eevdf_c.specs.contracts.fair_shares.FairShares as shares_type
 use Rattle.eevdf_fair_queue.specs.declared.bounds.Bounds.{Bounds}
+use Rattle.eevdf_fair_queue.specs.Beside.{SharesView}
 
 -- an opened queue, which nobody else uses
 abbrev pub queue_at : Ptr → State → Fml
@@ -42,6 +44,14 @@ bounds_at at b = lies_at bounds_type.the_row full_share at b
 abbrev pub room_for_bounds : Ptr → Fml
 room_for_bounds at = room_at bounds_type.the_row at
 
+-- what is kept of the shares of a queue's tasks, which nobody else uses
+abbrev pub shares_at : Ptr → SharesView → Fml
+shares_at at s = lies_at shares_type.the_row full_share at s
+
+-- the room of that
+abbrev pub room_for_shares : Ptr → Fml
+room_for_shares at = room_at shares_type.the_row at
+
 -- a pointer, which nobody else uses: to memory for a task, with the right to free it, or, where there is no block, null
 abbrev pub block_at : Ptr → Bool → Fml
 block_at at has = lies_at block_type.the_row full_share at has
@@ -58,7 +68,7 @@ entry_at at e = lies_at entry_type.the_row full_share at e
 abbrev pub sleeper_at : Ptr → SleeperOut → Fml
 sleeper_at at s = lies_at sleeper_type.the_row full_share at s
 
--- the place of a task that dozes, which nobody else uses
+-- the place of a task that dozes, or a mark of its share, which nobody else uses
 abbrev pub place_at : Ptr → PlaceOut → Fml
 place_at at p = lies_at place_type.the_row full_share at p
 

@@ -9,3 +9,6 @@ hand_size = pos 16
 
 abbrev pub bounds_size : ℤ
 bounds_size = pos 32
+
+abbrev pub shares_size : ℤ
+shares_size = pos 64

@@ -11,4 +11,5 @@ pub mod lateness;
 pub mod leaving;
 pub mod pulling;
 pub mod reading;
+pub mod shares;
 pub mod turns;

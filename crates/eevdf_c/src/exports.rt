@@ -8,6 +8,7 @@ pub mod lateness;
 pub mod opening;
 pub mod pulls;
 pub mod readers;
+pub mod shares;
 pub mod sizes;
 pub mod tasks;
 pub mod turns;

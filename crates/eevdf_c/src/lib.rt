@@ -15,6 +15,7 @@ mod codes;
 mod entry_out;
 mod exports;
 mod fair_bounds;
+mod fair_shares;
 mod given_block;
 mod hand;
 mod moving;

@@ -1,4 +1,4 @@
-//! That a queue, a hand and bounds may lie elsewhere from one call to the next.
+//! That a queue, a hand, bounds and shares may lie elsewhere from one call to the next.
 //!
 //! Nobody calls these: C copies the bytes itself. Their contracts say what C may rely on then. The bytes alone tell the queue, wherever
 //! they lie, so nothing that the library keeps leads back to where they lay; and where they lay is room of the caller's again.
@@ -7,9 +7,11 @@ ghost use Rattle.std.specs.Prelude.{Option};
 ghost use Rattle.std.specs.Borrow.{sem};
 ghost use Rattle.eevdf_queue.specs.State.{State, Contents};
 ghost use Rattle.eevdf_fair_queue.specs.declared.bounds.Bounds.{Bounds};
-ghost use Rattle.eevdf_c.specs.Memory.{bounds_at, hand_at, queue_at, room_for_bounds, room_for_hand, room_for_queue};
+ghost use Rattle.eevdf_fair_queue.specs.Beside.{SharesView};
+ghost use Rattle.eevdf_c.specs.Memory.{bounds_at, hand_at, queue_at, room_for_bounds, room_for_hand, room_for_queue, room_for_shares, shares_at};
 
 use crate::fair_bounds::FairBounds;
+use crate::fair_shares::FairShares;
 use crate::hand::Hand;
 use crate::opened::Opened;
 
@@ -44,4 +46,15 @@ pub unsafe fn move_bounds(from: *mut u8, to: *mut u8)
     ensures* left { sem 𝓛 (room_for_bounds from) }
 {
     (to as *mut FairBounds).write((from as *mut FairBounds).read());
+}
+
+/// Copies the bytes of shares to another place, where they are the same shares.
+pub unsafe fn move_shares(from: *mut u8, to: *mut u8)
+    ghost s: { SharesView }
+    requires* here { sem 𝓛 (shares_at from s) }
+    requires* there { sem 𝓛 (room_for_shares to) }
+    ensures* moved { sem 𝓛 (shares_at to s) }
+    ensures* left { sem 𝓛 (room_for_shares from) }
+{
+    (to as *mut FairShares).write((from as *mut FairShares).read());
 }

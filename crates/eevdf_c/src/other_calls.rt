@@ -4,8 +4,12 @@
 
 ghost use Rattle.eevdf_c.specs.OtherCalls.{OtherCallsKeepBounds};
 
-/// Where bounds are true they are true after each of these calls, whatever it answers.
-#[tactic(auto, using(crate::proofs::OtherCalls::other_calls_keep_bounds))]
+use eevdf_fair_queue::laws::leavings_keep_bounds;
+
+/// Where bounds are true they are true after each of these calls, whatever it answers: each comes to calls of a queue by which they stay
+/// true.
 pub fn other_calls_keep_bounds()
     ensures { OtherCallsKeepBounds }
-{}
+{
+    leavings_keep_bounds();
+}

@@ -6,7 +6,7 @@ use std::mem::{align_of, size_of};
 /// How many numbers the lower half has.
 const UNIT: i128 = 1 << 64;
 
-/// The place of a task that dozes, as C sees it: a number of 128 bits in two halves.
+/// The place of a task that dozes, or a mark of its share, as C sees it: a number of 128 bits in two halves.
 #[repr(C)]
 #[derive(Clone, Copy)]
 pub struct PlaceOut {
@@ -26,6 +26,13 @@ impl PlaceOut {
             high: place.div_euclid(UNIT) as i64,
             low: place.rem_euclid(UNIT) as u64,
         }
+    }
+
+    /// The number that the halves make.
+    pub fn value(&self) -> i128
+        ensures { result ≡ places.value self.now }
+    {
+        i128::from(self.high) * UNIT + i128::from(self.low)
     }
 }
 

@@ -24,6 +24,19 @@ use eevdf_fair_queue::{Bounds, Mark};
 use eevdf_queue::laws::{every_queue, pick_is_first, pick_of_nobody};
 use eevdf_queue::{Entry, TaskId};
 
+/// Makes a call that touches one task, and makes the bounds those after it.
+macro_rules! beside {
+    ($bounds:expr, $opened:expr, $task:expr; $call:expr) => {{
+        pick_is_first();
+        pick_of_nobody();
+        every_queue(&$opened.queue);
+        let mark = Mark::of(&$opened.queue, $task);
+        let code = $call;
+        settle($bounds, code, mark, $opened, $task);
+        code
+    }};
+}
+
 /// Makes a task runnable that starts at a virtual runtime, with a fresh request.
 pub fn admit(
     bounds: &mut FairBounds,
@@ -43,16 +56,10 @@ pub fn admit(
     ensures kept { KeepsOnError result opened.old opened.new }
     ensures steady { KeepsOnError result bounds.old bounds.new }
 {
-    pick_is_first();
-    pick_of_nobody();
-    every_queue(&opened.queue);
     let Some(task) = TaskId::new(number) else {
         return INVALID;
     };
-    let mark = Mark::of(&opened.queue, task);
-    let code = coming::admit(opened, number, level, slice_ns, start);
-    settle(bounds, code, mark, opened, task);
-    code
+    beside!(bounds, opened, task; coming::admit(opened, number, level, slice_ns, start))
 }
 
 /// The same in a block that the caller gives.
@@ -80,16 +87,10 @@ pub fn admit_in(
     ensures held { KeepsOnError result block.old block.new }
     ensures steady { KeepsOnError result bounds.old bounds.new }
 {
-    pick_is_first();
-    pick_of_nobody();
-    every_queue(&opened.queue);
     let Some(task) = TaskId::new(number) else {
         return INVALID;
     };
-    let mark = Mark::of(&opened.queue, task);
-    let code = blocks::admit_in(opened, block, number, level, slice_ns, start);
-    settle(bounds, code, mark, opened, task);
-    code
+    beside!(bounds, opened, task; blocks::admit_in(opened, block, number, level, slice_ns, start))
 }
 
 /// The task of a hand becomes runnable, placed with its lag.
@@ -103,17 +104,11 @@ pub fn put(bounds: &mut FairBounds, opened: &mut Opened, hand: &mut Hand) -> i64
     ensures held { KeepsOnError result hand.old hand.new }
     ensures steady { KeepsOnError result bounds.old bounds.new }
 {
-    pick_is_first();
-    pick_of_nobody();
-    every_queue(&opened.queue);
     let Some(parcel) = &hand.parcel else {
         return ABSENT;
     };
     let task = parcel.task();
-    let mark = Mark::of(&opened.queue, task);
-    let code = carrying::put(opened, hand);
-    settle(bounds, code, mark, opened, task);
-    code
+    beside!(bounds, opened, task; carrying::put(opened, hand))
 }
 
 /// Makes a task runnable that sleeps here, with the lag that it kept.
@@ -126,16 +121,10 @@ pub fn wake(bounds: &mut FairBounds, opened: &mut Opened, number: u64) -> i64
     ensures kept { KeepsOnError result opened.old opened.new }
     ensures steady { KeepsOnError result bounds.old bounds.new }
 {
-    pick_is_first();
-    pick_of_nobody();
-    every_queue(&opened.queue);
     let Some(task) = TaskId::new(number) else {
         return INVALID;
     };
-    let mark = Mark::of(&opened.queue, task);
-    let code = changing::wake(opened, number);
-    settle(bounds, code, mark, opened, task);
-    code
+    beside!(bounds, opened, task; changing::wake(opened, number))
 }
 
 /// Gives a runnable task another nice level.
@@ -148,16 +137,10 @@ pub fn renice(bounds: &mut FairBounds, opened: &mut Opened, number: u64, level: 
     ensures kept { KeepsOnError result opened.old opened.new }
     ensures steady { KeepsOnError result bounds.old bounds.new }
 {
-    pick_is_first();
-    pick_of_nobody();
-    every_queue(&opened.queue);
     let Some(task) = TaskId::new(number) else {
         return INVALID;
     };
-    let mark = Mark::of(&opened.queue, task);
-    let code = changing::renice(opened, number, level);
-    settle(bounds, code, mark, opened, task);
-    code
+    beside!(bounds, opened, task; changing::renice(opened, number, level))
 }
 
 /// Gives a task another nice level and slice, runnable or asleep.
@@ -176,16 +159,10 @@ pub fn set(
     ensures kept { KeepsOnError result opened.old opened.new }
     ensures steady { KeepsOnError result bounds.old bounds.new }
 {
-    pick_is_first();
-    pick_of_nobody();
-    every_queue(&opened.queue);
     let Some(task) = TaskId::new(number) else {
         return INVALID;
     };
-    let mark = Mark::of(&opened.queue, task);
-    let code = changing::set(opened, number, level, slice_ns);
-    settle(bounds, code, mark, opened, task);
-    code
+    beside!(bounds, opened, task; changing::set(opened, number, level, slice_ns))
 }
 
 /// Makes bounds those after a call that touched a task and was answered so, with the mark of before. An error leaves them.

@@ -1,9 +1,10 @@
-//! How many bytes the caller gives to a queue, to a hand and to bounds.
+//! How many bytes the caller gives to a queue, to a hand, to bounds and to shares.
 
 ghost use Rattle.std.specs.Prelude.{◌≡◌};
-ghost use Rattle.eevdf_c.specs.Sizes.{bounds_size, hand_size, queue_size};
+ghost use Rattle.eevdf_c.specs.Sizes.{bounds_size, hand_size, queue_size, shares_size};
 
 use crate::fair_bounds::FairBounds;
+use crate::fair_shares::FairShares;
 use crate::hand::Hand;
 use crate::opened::Opened;
 use std::mem::size_of;
@@ -30,4 +31,12 @@ pub extern "C" fn eevdf_bounds_size() -> i64
     ensures { result ≡ bounds_size }
 {
     size_of::<FairBounds>() as i64
+}
+
+/// The bytes of shares, as `EEVDF_SHARES_SIZE` of the header has them.
+#[unsafe(no_mangle)]
+pub extern "C" fn eevdf_shares_size() -> i64
+    ensures { result ≡ shares_size }
+{
+    size_of::<FairShares>() as i64
 }
