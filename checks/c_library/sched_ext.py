@@ -5,7 +5,9 @@ own class, and each traced call is answered as by the plain model, which notices
 import os
 import re
 import shutil
-from dataclasses import dataclass
+from concurrent.futures import ThreadPoolExecutor
+from dataclasses import dataclass, field, replace
+from functools import partial
 
 from tools import TOP, fault_of, run
 
@@ -26,10 +28,11 @@ LEAST = 0.5
 
 @dataclass(frozen=True)
 class Machine:
-    """How many CPUs it has, and what it does."""
+    """How many CPUs it has, what it does, and what run.sh is told besides by its environment."""
 
     cpus: int
     words: tuple
+    more: dict = field(default_factory=dict)
 
     @property
     def name(self):
@@ -81,12 +84,27 @@ def unnoticed(said):
     return f"too seldom: {', '.join(wrong)}" if wrong or not counts else None
 
 
-def boot(tools, folder, machine, **env):
-    """Has the machine do what it does, in the folder of the check, where nothing is left of it. What it says; nothing where it can't be
-    looked at."""
-    made = run([FOLDER / "run.sh", folder, *machine.words], seconds=ALL_SECONDS, env={
-        **os.environ, "MODULE": str(tools.module), "SECONDS_OF_QEMU": str(SECONDS), "CPUS": str(machine.cpus),
-        "TMPDIR": str(tools.work), **env})
+def build(tools, folder):
+    """What the machines boot with. None where it can't be built, of which it is said why."""
+    initramfs = tools.work / "sched_ext.initramfs"
+    made = run([FOLDER / "build_machine.sh", folder, initramfs], seconds=ALL_SECONDS, env={
+        **os.environ, "MODULE": str(tools.module), "TMPDIR": str(tools.work)})
+    if made.returncode == IS_MISSING:
+        tools.checks.leave_out("examples/sched_ext", made.stderr.strip())
+        return None
+    tools.checks.look("examples/sched_ext: the module and its machine are built", fault_of(made))
+    return None if made.returncode else initramfs
+
+
+def boot(tools, folder, initramfs, machine):
+    """Has the machine do what it does, in the folder of the check, where nothing is left of it."""
+    return run([FOLDER / "run.sh", folder, *machine.words], seconds=ALL_SECONDS, env={
+        **os.environ, "INITRAMFS": str(initramfs), "SECONDS_OF_QEMU": str(SECONDS), "CPUS": str(machine.cpus),
+        "TMPDIR": str(tools.work), **machine.more})
+
+
+def what_it_says(tools, machine, made):
+    """Counts a run. What the machine said; nothing where it can't be looked at."""
     if made.returncode == IS_MISSING:
         tools.checks.leave_out(machine.name, made.stderr.strip())
     elif made.returncode == IS_LATE:
@@ -94,6 +112,20 @@ def boot(tools, folder, machine, **env):
     else:
         tools.checks.look(f"{machine.name}: {' '.join(machine.words)}", fault_of(made))
     return "" if made.returncode else made.stdout
+
+
+def check_one(tools, said):
+    tools.checks.look(f"{ONE.name}: shares within 1 % of the weights", share_fault(said, 1))
+
+
+def check_two(tools, said, trace):
+    tools.checks.look(f"{TWO.name}: shares within 2 % of the weights", share_fault(said, 2))
+    tools.checks.look(f"{TWO.name}: the hunt ends under the scheduler", hunts_fault(said, "queues"))
+    check_trace(tools, trace)
+
+
+def check_four(tools, said):
+    tools.checks.look(f"{FOUR.name}: a task whose CPUs change isn't dispatched where it may not run", look_fault(said))
 
 
 def check_trace(tools, trace):
@@ -115,12 +147,15 @@ def check(tools):
         if not shutil.which(tool):
             tools.checks.skip("examples/sched_ext", tool, package)
             return
+    initramfs = build(tools, folder)
+    if not initramfs:
+        return
     trace = tools.work / "sched_ext.trace"
-    if said := boot(tools, folder, ONE):
-        tools.checks.look(f"{ONE.name}: shares within 1 % of the weights", share_fault(said, 1))
-    if said := boot(tools, folder, TWO, TRACE=str(trace), WORDS="rebase_ms=500"):
-        tools.checks.look(f"{TWO.name}: shares within 2 % of the weights", share_fault(said, 2))
-        tools.checks.look(f"{TWO.name}: the hunt ends under the scheduler", hunts_fault(said, "queues"))
-        check_trace(tools, trace)
-    if said := boot(tools, folder, FOUR):
-        tools.checks.look(f"{FOUR.name}: a task whose CPUs change isn't dispatched where it may not run", look_fault(said))
+    traced = replace(TWO, more={"TRACE": str(trace), "WORDS": "rebase_ms=500"})
+    looks = ((ONE, check_one), (traced, partial(check_two, trace=trace)), (FOUR, check_four))
+    # where time is counted by instructions a machine takes one processor, so all run at once
+    with ThreadPoolExecutor() as pool:
+        runs = [pool.submit(boot, tools, folder, initramfs, machine) for machine, _ in looks]
+        for (machine, look), made in zip(looks, runs):
+            if said := what_it_says(tools, machine, made.result()):
+                look(tools, said)

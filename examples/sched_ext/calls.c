@@ -7,6 +7,7 @@
 #include "calls.h"
 
 #include <linux/io.h>
+#include <linux/kcsan-checks.h>
 #include <linux/kernel.h>
 #include <linux/module.h>
 #include <linux/smp.h>
@@ -18,7 +19,7 @@
 struct record {
 	u8 call, queue;
 	u8 other;	/* the queue that a pull takes from */
-	u8 hand;	/* the CPU whose hand it is */
+	u8 hand;
 	u32 task;
 	s64 first, second, third, answer;
 	s64 time, load;
@@ -94,7 +95,8 @@ s64 fail(struct cpu_queue *queue, enum call call, u64 task, s64 answer)
 
 /*
  * Refusals of a good run: nobody is there to run or to be pulled, or needs a timer, a pull would
- * bring no loads closer, and a task has yielded so often that its deadline would leave the range.
+ * bring no loads closer, or its task's number is taken where it goes, so that it comes by a hand,
+ * and a task has yielded so often that its deadline would leave the range.
  */
 static bool is_good(enum call call, s64 answer)
 {
@@ -106,7 +108,7 @@ static bool is_good(enum call call, s64 answer)
 		return answer == EEVDF_ABSENT;
 	case CALL_PULL:
 	case CALL_PULL_TASK:
-		return answer == EEVDF_BALANCED;
+		return answer == EEVDF_BALANCED || answer == EEVDF_PRESENT;
 	case CALL_YIELD:
 		return answer == EEVDF_RANGE;
 	default:
@@ -124,11 +126,17 @@ u64 calls_made(void)
 	return all;
 }
 
-/* Counts a call, writes it into the trace, and looks whether it was refused. */
-static s64 note(struct record record)
+/*
+ * Counts a call, writes it into the trace, and looks whether it was refused. The library's object
+ * tells Linux's checkers nothing of what it reads and writes, so they are told here.
+ */
+static s64 note(struct cpu_queue *queue, struct record record)
 {
 	s64 at;
 
+	lockdep_assert_held(&queue->lock);
+	ASSERT_EXCLUSIVE_ACCESS(queue->queue.bytes[0]);
+	record.queue = queue->cpu;
 	this_cpu_inc(made);
 	if (trace) {
 		at = atomic64_fetch_inc(&trace->made);
@@ -151,12 +159,11 @@ static s64 time_of(struct cpu_queue *queue)
 /* A call that may change the queue. */
 static s64 note_change(struct cpu_queue *queue, struct record record)
 {
-	record.queue = queue->cpu;
 	if (trace) {
 		record.time = time_of(queue);
 		record.load = eevdf_load(&queue->queue);
 	}
-	return note(record);
+	return note(queue, record);
 }
 
 /* A call that has no more numbers than a task. */
@@ -168,8 +175,13 @@ static s64 note_task(struct cpu_queue *queue, enum call call, u64 task, s64 answ
 /* A call that changes nothing. */
 static s64 note_answer(struct cpu_queue *queue, enum call call, u64 task, s64 answer)
 {
-	return note((struct record){
-		.call = call, .queue = queue->cpu, .task = task, .answer = answer });
+	return note(queue, (struct record){ .call = call, .task = task, .answer = answer });
+}
+
+void open_hand(struct hand *hand, bool is_second)
+{
+	eevdf_hand_open(&hand->hand);
+	hand->at = 2 * smp_processor_id() + is_second;
 }
 
 void call_open(struct cpu_queue *queue)
@@ -260,20 +272,37 @@ s64 call_set(struct cpu_queue *queue, u64 task, s64 nice, u64 slice_ns)
 		.answer = answer });
 }
 
-s64 call_take(struct cpu_queue *queue, eevdf_hand *hand, u64 task)
+s64 call_take(struct cpu_queue *queue, struct hand *hand, u64 task)
 {
-	s64 answer = eevdf_take(&queue->queue, hand, task);
+	s64 answer = eevdf_take(&queue->queue, &hand->hand, task);
 
 	return note_change(queue, (struct record){
-		.call = CALL_TAKE, .hand = smp_processor_id(), .task = task, .answer = answer });
+		.call = CALL_TAKE, .hand = hand->at, .task = task, .answer = answer });
 }
 
-s64 call_put_asleep(struct cpu_queue *queue, eevdf_hand *hand)
+/* The task gets a number of the queue where it is about to be put. */
+s64 call_hand_renumber(struct cpu_queue *queue, struct hand *hand, u64 task)
 {
-	s64 answer = eevdf_put_asleep(&queue->queue, hand);
+	s64 answer = eevdf_hand_renumber(&hand->hand, task);
+
+	return note(queue, (struct record){
+		.call = CALL_HAND_RENUMBER, .hand = hand->at, .task = task, .answer = answer });
+}
+
+s64 call_put(struct cpu_queue *queue, struct hand *hand)
+{
+	s64 answer = eevdf_put(&queue->queue, &hand->hand);
 
 	return note_change(queue, (struct record){
-		.call = CALL_PUT_ASLEEP, .hand = smp_processor_id(), .answer = answer });
+		.call = CALL_PUT, .hand = hand->at, .answer = answer });
+}
+
+s64 call_put_asleep(struct cpu_queue *queue, struct hand *hand)
+{
+	s64 answer = eevdf_put_asleep(&queue->queue, &hand->hand);
+
+	return note_change(queue, (struct record){
+		.call = CALL_PUT_ASLEEP, .hand = hand->at, .answer = answer });
 }
 
 s64 call_pull(struct cpu_queue *to, struct cpu_queue *from)
@@ -327,7 +356,7 @@ s64 call_deadline(struct cpu_queue *queue, u64 task, s64 *deadline)
 	s64 answer = eevdf_entry_of(&queue->queue, task, &entry);
 
 	*deadline = entry.deadline;
-	return note((struct record){
-		.call = CALL_ENTRY_OF, .queue = queue->cpu, .task = task, .first = entry.deadline,
+	return note(queue, (struct record){
+		.call = CALL_ENTRY_OF, .task = task, .first = entry.deadline,
 		.second = entry.vruntime, .answer = answer });
 }

@@ -16,8 +16,14 @@
 enum call {
 	CALL_OPEN, CALL_ADMIT, CALL_END, CALL_PICK, CALL_PEEK, CALL_TICK, CALL_TIME_TO_RESCHED,
 	CALL_YIELD, CALL_STOP, CALL_RUN, CALL_SLEEP, CALL_DOZE, CALL_WAKE, CALL_SET, CALL_TAKE,
-	CALL_PUT_ASLEEP, CALL_PULL, CALL_PULL_TASK, CALL_REBASE, CALL_LEN, CALL_RUNNING,
-	CALL_CANDIDATE, CALL_IS_ASLEEP, CALL_ENTRY_OF
+	CALL_HAND_RENUMBER, CALL_PUT, CALL_PUT_ASLEEP, CALL_PULL, CALL_PULL_TASK, CALL_REBASE,
+	CALL_LEN, CALL_RUNNING, CALL_CANDIDATE, CALL_IS_ASLEEP, CALL_ENTRY_OF
+};
+
+/* A number of a queue's, and the task that has it there, or NULL. */
+struct number {
+	struct task *task;
+	struct list_head free;	/* in `free_numbers` of its queue while nobody has it */
 };
 
 /* The run queue of a CPU. All but `cpu` and the hints needs the lock. */
@@ -32,6 +38,15 @@ struct cpu_queue {
 	bool is_due;			/* a request was used up since the last pick */
 	struct hrtimer timer;
 	long tasks_hint, load_hint;	/* written under the lock, and read without */
+	unsigned int members;		/* likewise: how many tasks belong to it */
+	struct list_head free_numbers;
+	struct number numbers[EEVDF_TASKS];
+};
+
+/* A hand, by the number that it has in the trace: each CPU has two. */
+struct hand {
+	eevdf_hand hand;
+	u8 at;
 };
 
 int begin_trace(void);
@@ -43,6 +58,9 @@ const char *failure_in_words(void);
 /* Keeps that a call failed, or that its answer can't be right. Gives the answer. */
 s64 fail(struct cpu_queue *queue, enum call call, u64 task, s64 answer);
 u64 calls_made(void);
+
+/* Opens one of the two hands of this CPU. */
+void open_hand(struct hand *hand, bool is_second);
 
 void call_open(struct cpu_queue *queue);
 s64 call_admit(struct cpu_queue *queue, eevdf_block *block, u64 task, s64 nice, u64 slice_ns);
@@ -58,8 +76,10 @@ s64 call_sleep(struct cpu_queue *queue, u64 task);
 s64 call_doze(struct cpu_queue *queue, u64 task);
 s64 call_wake(struct cpu_queue *queue, u64 task);
 s64 call_set(struct cpu_queue *queue, u64 task, s64 nice, u64 slice_ns);
-s64 call_take(struct cpu_queue *queue, eevdf_hand *hand, u64 task);
-s64 call_put_asleep(struct cpu_queue *queue, eevdf_hand *hand);
+s64 call_take(struct cpu_queue *queue, struct hand *hand, u64 task);
+s64 call_hand_renumber(struct cpu_queue *queue, struct hand *hand, u64 task);
+s64 call_put(struct cpu_queue *queue, struct hand *hand);
+s64 call_put_asleep(struct cpu_queue *queue, struct hand *hand);
 s64 call_pull(struct cpu_queue *to, struct cpu_queue *from);
 s64 call_pull_task(struct cpu_queue *to, struct cpu_queue *from, u64 task);
 s64 call_rebase(struct cpu_queue *queue);

@@ -5,11 +5,14 @@
 #ifndef COMMON_H
 #define COMMON_H
 
-/* A machine has no more CPUs. enqueue() answers a bit for each that is to look for work. */
+/*
+ * A machine has no more CPUs. enqueue() answers a bit for each that is to look for work, behind
+ * these the CPU in whose queue the task waits, and a bit that says that somebody else is to run
+ * there.
+ */
 #define MAX_CPUS 32
-
-/* A further bit of that answer: on the task's own CPU somebody else is to run. */
-#define PREEMPT_HOME (1ull << 62)
+#define CPU_SHIFT 32
+#define PREEMPT (1ull << 62)
 
 /* Linux puts the scheduler out once a task waits longer than this. */
 #define WATCHDOG_MS 5000

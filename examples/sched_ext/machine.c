@@ -106,6 +106,15 @@ pid_t fork_as(const char *name, int nice)
 	return child;
 }
 
+bool stay_on_cpu(pid_t process, int cpu)
+{
+	cpu_set_t cpus;
+
+	CPU_ZERO(&cpus);
+	CPU_SET((size_t)cpu, &cpus);
+	return sched_setaffinity(process, sizeof cpus, &cpus) == 0;
+}
+
 void end_child(pid_t child)
 {
 	if (child <= 0)
@@ -179,6 +188,8 @@ static const struct {
 	{ "fault", try_fault },
 	{ "plant", plant },
 	{ "real_time", spin_in_real_time },
+	{ "turning", end_beside_turning },
+	{ "computing", end_beside_computing },
 };
 
 /* A word is a name, and a number behind "=". */

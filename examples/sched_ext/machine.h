@@ -25,6 +25,8 @@ void compute_until(int64_t at);
 void *shared(size_t size);
 /* Forks a child with a nice level and a name. It is 0 in the child. */
 pid_t fork_as(const char *name, int nice);
+/* A process may run on that CPU alone from now on; 0 is this one. */
+bool stay_on_cpu(pid_t process, int cpu);
 /* Ends a child, and waits for it. */
 void end_child(pid_t child);
 
@@ -47,5 +49,7 @@ void hunt(int seconds, bool only_cpus);
 void fork_until_refused(void);
 void try_fault(int fault);
 void spin_in_real_time(int seconds);
+void end_beside_turning(int seconds);
+void end_beside_computing(int seconds);
 
 #endif

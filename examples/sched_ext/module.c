@@ -22,15 +22,15 @@ static s64 told(s64 answer)
 
 __bpf_kfunc_start_defs();
 
-/* A fork is refused where there is no number, and for nothing else. */
+/* A fork is refused where there is no room, and for nothing else. */
 __bpf_kfunc s64 queues_begin(struct task_struct *p)
 {
-	return begin_number(p);
+	return begin(p);
 }
 
 __bpf_kfunc void queues_end(struct task_struct *p)
 {
-	end_number(p);
+	end(p);
 }
 
 __bpf_kfunc void queues_leave(struct task_struct *p)
@@ -119,13 +119,12 @@ BTF_KFUNCS_END(queues_ids)
 
 static const struct btf_kfunc_id_set queues_set = { .owner = THIS_MODULE, .set = &queues_ids };
 
-static int __init begin(void)
+static int __init begin_module(void)
 {
 	int answer = begin_trace();
 
 	if (answer)
 		return answer;
-	begin_tasks();
 	answer = begin_queues();
 	if (answer)
 		goto without_queues;
@@ -138,7 +137,7 @@ without_queues:
 	return answer;
 }
 
-static void __exit end(void)
+static void __exit end_module(void)
 {
 	const char *failed = failure_in_words();
 
@@ -147,15 +146,15 @@ static void __exit end(void)
 	pr_info("queues: %lld pulled by idle CPUs, %lld by busy ones, %lld dispatches cancelled\n",
 		atomic64_read(&pulled), atomic64_read(&pulled_when_busy),
 		atomic64_read(&cancelled));
-	pr_info("queues: %u numbers, %u blocks and %u places in queues are still taken\n",
-		numbers_taken(), blocks_taken(), places_taken());
+	pr_info("queues: %u tasks, %u numbers, %u blocks and %u places in queues are still taken\n",
+		tasks_taken(), all_numbers_taken(), blocks_taken(), places_taken());
 	pr_info("queues: failed: %s\n", failed ? failed : "nothing");
 	end_queues();
 	end_trace();
 }
 
-module_init(begin);
-module_exit(end);
+module_init(begin_module);
+module_exit(end_module);
 MODULE_DESCRIPTION("Linux's tasks in run queues under EEVDF");
 /* Linux offers register_btf_kfunc_id_set to such modules alone; README.md says who may load it. */
 MODULE_LICENSE("GPL");

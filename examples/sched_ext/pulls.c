@@ -20,15 +20,17 @@ static u64 balanced_at[MAX_CPUS];
  * Whether Linux lets the task go on there. It may have changed its mind by the time that the task
  * is dispatched; confirm() of scheduler.c looks again then.
  */
-bool may_come(struct task *task, int cpu)
+bool may_run(const struct task_struct *linux_task, int cpu)
 {
-	struct task_struct *linux_task = task->linux_task;
-
-	if (!task->is_ours)
-		return false;
 	if (task_cpu(linux_task) == cpu)
 		return true;
-	return !linux_task->migration_disabled && cpumask_test_cpu(cpu, linux_task->cpus_ptr);
+	return !READ_ONCE(linux_task->migration_disabled) &&
+	       cpumask_test_cpu(cpu, READ_ONCE(linux_task->cpus_ptr));
+}
+
+bool may_come(struct task *task, int cpu)
+{
+	return task->is_ours && may_run(task->linux_task, cpu);
 }
 
 /* The task of latest deadline that waits there and may come, or NULL. */
@@ -38,11 +40,9 @@ static struct task *last_that_may_come(struct cpu_queue *from, int cpu)
 	s64 deadline, latest = S64_MIN, running = call_running(from);
 
 	list_for_each_entry(task, &from->waiting, waiting) {
-		u64 number = number_of(task);
-
-		if (number == running || !may_come(task, cpu))
+		if (task->number == running || !may_come(task, cpu))
 			continue;
-		if (call_deadline(from, number, &deadline) < 0)
+		if (call_deadline(from, task->number, &deadline) < 0)
 			continue;
 		if (deadline > latest) {
 			latest = deadline;
@@ -52,27 +52,74 @@ static struct task *last_that_may_come(struct cpu_queue *from, int cpu)
 	return last;
 }
 
+/*
+ * A pull has found that the loads would come closer, and that the task's number is taken here: it
+ * comes by a hand, under one that is free. Where it can't be placed, it sleeps where it was, and
+ * the refusal ends the scheduler.
+ */
+static s64 pull_by_hand(struct cpu_queue *to, struct cpu_queue *from, u64 task, u64 number)
+{
+	struct hand hand;
+	s64 answer;
+
+	open_hand(&hand, false);
+	call_take(from, &hand, task);
+	call_hand_renumber(to, &hand, number);
+	answer = call_put(to, &hand);
+	if (answer < 0) {
+		call_hand_renumber(from, &hand, task);
+		call_put_asleep(from, &hand);
+	}
+	return answer;
+}
+
+/* Pulls a task that waits and may come. There is room for it. */
+static bool pull_one(struct cpu_queue *to, struct cpu_queue *from, struct task *task, bool is_named)
+{
+	u64 was = task->number, number = number_for(to, was);
+	s64 answer = is_named ? call_pull_task(to, from, was) : call_pull(to, from);
+
+	if (answer == EEVDF_PRESENT)
+		answer = pull_by_hand(to, from, was, number);
+	if (answer < 0)
+		return false;
+	give_number(from, task);
+	part(from);
+	take_number(to, task, number);
+	join(to, task);
+	is_left_to_us(to, task);
+	return true;
+}
+
 /* Pulls a task where there is one that may come. Both locks are held. Whether one came. */
 static bool pull_from(struct cpu_queue *to, struct cpu_queue *from)
 {
-	struct task *task = task_by_number(call_candidate(from));
-	s64 answer;
+	struct task *task = task_by_number(from, call_candidate(from));
+	bool is_named = task && !may_come(task, to->cpu);
 
-	if (!task)
-		return false;
-	if (may_come(task, to->cpu)) {
-		answer = call_pull(to, from);
-	} else {
+	if (is_named)
 		task = last_that_may_come(from, to->cpu);
-		if (!task)
-			return false;
-		answer = call_pull_task(to, from, number_of(task));
-	}
-	if (answer < 0)
+	return task && pull_one(to, from, task, is_named);
+}
+
+/*
+ * The same for a CPU that has nobody to run: where it has no room, somebody who sleeps there goes
+ * the other way. From a CPU that has two tasks a task comes that may.
+ */
+static bool pull_from_crowded(struct cpu_queue *to, struct cpu_queue *from)
+{
+	struct task *other = has_room(to) ? NULL : who_can_go(to);
+	struct carried carried;
+	bool has_come;
+
+	if (call_len(from) < 2 || (!other && !has_room(to)))
 		return false;
-	WRITE_ONCE(task->home, to->cpu);
-	is_left_to_us(to, task);
-	return true;
+	if (other)
+		take_up(&carried, to, other, true);
+	has_come = pull_from(to, from);
+	if (other)
+		put_down(&carried, has_come ? from : to);
+	return has_come;
 }
 
 /* By the hints the CPU of greatest load among those with two tasks that weren't tried, or NULL. */
@@ -107,7 +154,7 @@ struct cpu_queue *pull_for_idle(int cpu)
 
 		tried |= BIT(from->cpu);
 		lock_two(queue, from);
-		has_come = call_len(from) >= 2 && pull_from(queue, from);
+		has_come = pull_from_crowded(queue, from);
 		unlock_queue(from);
 		if (has_come) {
 			atomic64_inc(&pulled);
@@ -131,7 +178,7 @@ struct cpu_queue *pull_for_balance(int cpu)
 	}
 	balanced_at[cpu] = now;
 	lock_two(queue, from);
-	if (pull_from(queue, from))
+	if (has_room(queue) && pull_from(queue, from))
 		atomic64_inc(&pulled_when_busy);
 	unlock_queue(from);
 	return queue;

@@ -4,6 +4,7 @@
 #include <linux/module.h>
 #include <linux/slab.h>
 #include <linux/timekeeping.h>
+#include <linux/version.h>
 
 static unsigned int slice_us = 3000, rebase_ms = 86400000;
 module_param(slice_us, uint, 0444);
@@ -49,57 +50,6 @@ void lock_two(struct cpu_queue *one, struct cpu_queue *other)
 		raw_spin_lock_nested(&(first == one ? other : one)->lock, SINGLE_DEPTH_NESTING);
 }
 
-struct cpu_queue *lock_home(struct task *task)
-{
-	for (;;) {
-		int home = READ_ONCE(task->home);
-
-		if (home == NOWHERE)
-			return NULL;
-		lock_queue(&queues[home]);
-		if (task->home == home)
-			return &queues[home];
-		unlock_queue(&queues[home]);
-	}
-}
-
-/* A task goes from one queue to another, where it sleeps. Both locks are held. */
-static void move_asleep(struct task *task, struct cpu_queue *from, struct cpu_queue *to)
-{
-	eevdf_hand hand;
-
-	if (from->on_cpu == task->linux_task) {
-		charge(from);
-		from->on_cpu = NULL;
-	}
-	eevdf_hand_open(&hand);
-	call_take(from, &hand, number_of(task));
-	call_put_asleep(to, &hand);
-	is_taken_back(task);
-	WRITE_ONCE(task->home, to->cpu);
-}
-
-struct cpu_queue *bring(struct task *task, int cpu)
-{
-	struct cpu_queue *to = &queues[cpu];
-
-	for (;;) {
-		int home = READ_ONCE(task->home);
-		struct cpu_queue *from = home == NOWHERE ? to : &queues[home];
-		bool is_there;
-
-		lock_two(from, to);
-		is_there = task->home == home;
-		if (is_there && from != to)
-			move_asleep(task, from, to);
-		if (from != to)
-			unlock_queue(from);
-		if (is_there)
-			return to;
-		unlock_queue(to);
-	}
-}
-
 /*
  * Charges whoever is on the CPU for the time since it was last charged. More than a second is
  * charged in several ticks, and no time in none.
@@ -131,21 +81,22 @@ u64 slice_ns(void)
 static s64 admit(struct cpu_queue *queue, struct task *task)
 {
 	eevdf_block block = take_block();
+	u64 number = number_for(queue, NO_NUMBER);
 	s64 nice = nice_of(task->linux_task);
-	s64 answer = call_admit(queue, &block, number_of(task), nice, slice_ns());
+	s64 answer = call_admit(queue, &block, number, nice, slice_ns());
 
 	give_block(block);
 	if (answer >= 0)
-		WRITE_ONCE(task->home, queue->cpu);
+		take_number(queue, task, number);
 	return answer;
 }
 
 /* The task is runnable here, whether it slept here or is new. */
 s64 make_runnable(struct cpu_queue *queue, struct task *task)
 {
-	u64 number = number_of(task);
+	u64 number = task->number;
 
-	if (task->home == NOWHERE)
+	if (number == NO_NUMBER)
 		return admit(queue, task);
 	return call_is_asleep(queue, number) ? call_wake(queue, number) : 0;
 }
@@ -156,16 +107,16 @@ s64 make_runnable(struct cpu_queue *queue, struct task *task)
  */
 s64 put_to_sleep(struct cpu_queue *queue, struct task *task, bool falls_asleep)
 {
-	u64 number = number_of(task);
-	eevdf_hand hand;
+	u64 number = task->number;
+	struct hand hand;
 	s64 answer;
 
 	is_taken_back(task);
-	if (call_is_asleep(queue, number))
+	if (number == NO_NUMBER || call_is_asleep(queue, number))
 		return 0;
 	if (call_running(queue) == number)
 		return falls_asleep && dozes ? call_doze(queue, number) : call_sleep(queue, number);
-	eevdf_hand_open(&hand);
+	open_hand(&hand, false);
 	answer = call_take(queue, &hand, number);
 	return answer < 0 ? answer : call_put_asleep(queue, &hand);
 }
@@ -207,7 +158,7 @@ void set_timer(struct cpu_queue *queue)
 /* Has Linux ask for a pick as soon as the interrupt ends. The task is this CPU's own. */
 static void end_turn(struct task_struct *linux_task)
 {
-	linux_task->scx.slice = 0;
+	WRITE_ONCE(linux_task->scx.slice, 0);
 	set_tsk_need_resched(linux_task);
 	set_preempt_need_resched();
 }
@@ -228,6 +179,31 @@ static enum hrtimer_restart on_timer(struct hrtimer *timer)
 	return HRTIMER_NORESTART;
 }
 
+static void set_up_timer(struct hrtimer *timer)
+{
+#if LINUX_VERSION_CODE >= KERNEL_VERSION(6, 13, 0)
+	hrtimer_setup(timer, on_timer, CLOCK_MONOTONIC, HRTIMER_MODE_REL_HARD);
+#else
+	hrtimer_init(timer, CLOCK_MONOTONIC, HRTIMER_MODE_REL_HARD);
+	timer->function = on_timer;
+#endif
+}
+
+static void begin_queue(struct cpu_queue *queue, int cpu)
+{
+	unsigned long flags;
+
+	raw_spin_lock_init(&queue->lock);
+	queue->cpu = cpu;
+	queue->rebased = ktime_get_mono_fast_ns();
+	INIT_LIST_HEAD(&queue->waiting);
+	begin_numbers(queue);
+	set_up_timer(&queue->timer);
+	raw_spin_lock_irqsave(&queue->lock, flags);
+	call_open(queue);
+	raw_spin_unlock_irqrestore(&queue->lock, flags);
+}
+
 int begin_queues(void)
 {
 	if (slice_ns() < EEVDF_SLICE_MIN || slice_ns() > EEVDF_SLICE_MAX)
@@ -235,20 +211,22 @@ int begin_queues(void)
 	if (nr_cpu_ids > MAX_CPUS)
 		return -E2BIG;
 	queues = kvcalloc(nr_cpu_ids, sizeof *queues, GFP_KERNEL);
-	if (!queues)
+	if (!queues || begin_tasks(nr_cpu_ids)) {
+		kvfree(queues);
 		return -ENOMEM;
-	for (int cpu = 0; cpu < nr_cpu_ids; cpu++) {
-		struct cpu_queue *queue = &queues[cpu];
-
-		raw_spin_lock_init(&queue->lock);
-		queue->cpu = cpu;
-		queue->rebased = ktime_get_mono_fast_ns();
-		INIT_LIST_HEAD(&queue->waiting);
-		hrtimer_init(&queue->timer, CLOCK_MONOTONIC, HRTIMER_MODE_REL_HARD);
-		queue->timer.function = on_timer;
-		call_open(queue);
 	}
+	for (int cpu = 0; cpu < nr_cpu_ids; cpu++)
+		begin_queue(&queues[cpu], cpu);
 	return 0;
+}
+
+unsigned int all_numbers_taken(void)
+{
+	unsigned int taken = 0;
+
+	for (int cpu = 0; cpu < nr_cpu_ids; cpu++)
+		taken += numbers_taken(&queues[cpu]);
+	return taken;
 }
 
 unsigned int places_taken(void)
@@ -261,10 +239,11 @@ unsigned int places_taken(void)
 	return taken;
 }
 
-/* Linux has ended the scheduler, and with it each task's number. */
+/* Linux has ended the scheduler, and with it each task. */
 void end_queues(void)
 {
 	for (int cpu = 0; cpu < nr_cpu_ids; cpu++)
 		hrtimer_cancel(&queues[cpu].timer);
+	end_tasks();
 	kvfree(queues);
 }

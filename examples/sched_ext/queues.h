@@ -7,13 +7,16 @@
 #ifndef QUEUES_H
 #define QUEUES_H
 
-#include "tasks.h"
+#include "numbers.h"
 
 /* 0, or why the queues can't be: too many CPUs, no memory, or a slice out of its limits. */
 int begin_queues(void);
 void end_queues(void);
-/* How many tasks the queues have in all, runnable and asleep. It asks for each number. */
-unsigned int places_taken(void);
+/*
+ * How many numbers are taken in all queues, and how many tasks the library has there, runnable and
+ * asleep. The latter asks for each number.
+ */
+unsigned int all_numbers_taken(void), places_taken(void);
 
 struct cpu_queue *queue_of(int cpu);
 void lock_queue(struct cpu_queue *queue);
@@ -21,14 +24,29 @@ void unlock_queue(struct cpu_queue *queue);
 void lock_two(struct cpu_queue *one, struct cpu_queue *other);
 void write_hints(struct cpu_queue *queue);
 
-/* Takes the lock of the queue where the task is, and gives that, or NULL where it is in none. */
+/* Takes the lock of the queue to which the task belongs. */
 struct cpu_queue *lock_home(struct task *task);
 
 /*
- * Takes the lock of the CPU's queue. A task that was in another one sleeps in this one then; one
- * that was in none is in none still.
+ * The same, and the task belongs to the CPU's queue then: one that was in another queue sleeps in
+ * this one, and one that was in none is in none still. Where there is no room for it, and nobody
+ * there can make room, it stays where it was, and that lock is taken.
  */
 struct cpu_queue *bring(struct task *task, int cpu);
+
+/*
+ * A task on its way from one queue to another, in a hand, where it was in the queue. Both locks are
+ * held. Where it comes down it sleeps.
+ */
+struct carried {
+	struct task *task;
+	u64 number;	/* that it had, or NO_NUMBER */
+	struct hand hand;
+};
+void take_up(struct carried *carried, struct cpu_queue *queue, struct task *task, bool is_second);
+void put_down(struct carried *carried, struct cpu_queue *queue);
+/* Somebody who belongs to the queue and isn't runnable there, or NULL. */
+struct task *who_can_go(struct cpu_queue *queue);
 
 /* The slice of each task. */
 u64 slice_ns(void);
@@ -46,6 +64,8 @@ void is_taken_back(struct task *task);
 /* Pulls a task into the CPU's queue, of which neither lock is held, and leaves its lock taken. */
 struct cpu_queue *pull_for_idle(int cpu);
 struct cpu_queue *pull_for_balance(int cpu);
+/* Whether Linux lets the task run there; and whether it does, and has left it to this scheduler. */
+bool may_run(const struct task_struct *linux_task, int cpu);
 bool may_come(struct task *task, int cpu);
 
 extern atomic64_t pulled, pulled_when_busy;

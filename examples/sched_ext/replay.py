@@ -25,8 +25,8 @@ from model import Model  # noqa: E402
 # As calls.c lays them out.
 HEAD = struct.Struct("<QQQQ")
 RECORD = struct.Struct("<BBBBIqqqqqq")
-# The calls that change nothing: their records don't have how the queue is afterwards.
-READING = {"peek", "time_to_resched", "len", "running", "candidate", "is_asleep", "entry_of"}
+# The calls that change no queue: their records don't have how it is afterwards.
+READING = {"peek", "time_to_resched", "len", "running", "candidate", "is_asleep", "entry_of", "hand_renumber"}
 # After a change that is planted so many calls are done.
 FOLLOWED = 20000
 
@@ -91,12 +91,12 @@ def read_trace(trace):
 
 
 class Machine:
-    """The queue of each CPU, and the hand that it moves tasks by."""
+    """The queue of each CPU, and the two hands that it moves tasks by."""
 
     def __init__(self):
         self.model = Model()
         self.model.queues = [None] * CPUS
-        self.model.hands = [None] * CPUS
+        self.model.hands = [None] * 2 * CPUS
 
     def state(self, queue):
         """What a record has of the queue after its call."""
@@ -114,7 +114,9 @@ class Machine:
                 return record.queue, record.first
             case "take":
                 return record.queue, record.hand, record.task
-            case "put_asleep":
+            case "hand_renumber":
+                return record.hand, record.task
+            case "put" | "put_asleep":
                 return record.queue, record.hand
             case "pull":
                 return record.queue, record.other
@@ -154,18 +156,31 @@ def first_fault(machine, records):
     return None
 
 
+def begun(record, hands):
+    """The task whose request begins by a call, as its queue and its number there, or None. `hands` has the numbers of tasks in hands."""
+    match record.call:
+        case "take" | "hand_renumber":
+            hands[record.hand] = record.task
+        case "wake" | "admit" | "set" | "pull_task":
+            return record.queue, record.task
+        case "pull":
+            return record.queue, record.answer
+        case "put":
+            return record.queue, hands[record.hand]
+    return None
+
+
 def used_up(records):
     """For how many ns each request ran that was used up, in one turn or in several, but for those that a yield has made longer."""
-    running, ran, yielded = {}, Counter(), set()
+    running, ran, yielded, hands = {}, Counter(), set(), {}
     for record in records:
         if record.answer < 0:
             continue
-        if record.call in ("pick", "run"):
-            running[record.queue] = record.answer if record.call == "pick" else record.task
-        elif record.call in ("wake", "admit", "set", "pull", "pull_task"):
-            task = record.answer if record.call == "pull" else record.task
+        if task := begun(record, hands):
             ran[task] = 0
             yielded.discard(task)
+        elif record.call in ("pick", "run"):
+            running[record.queue] = record.queue, record.answer if record.call == "pick" else record.task
         elif record.call == "yield" and record.queue in running:
             yielded.add(running[record.queue])
         elif record.call == "tick" and record.queue in running:
@@ -225,12 +240,16 @@ def another_lag(one, other):
     return [replace(one, first=one.first + 1), other] if one.call == "doze" and one.answer >= 0 else None
 
 
+def another_number(one, other):
+    return [replace(one, task=(one.task + 1) % 1024), other] if one.call == "hand_renumber" and one.answer >= 0 else None
+
+
 def twice(name):
     return lambda one, other: [one, one, other] if one.call == name and one.answer >= 0 else None
 
 
 def turned(one, other):
-    changing = {"pick", "wake", "tick", "sleep", "doze", "take", "put_asleep", "yield", "run", "stop", "set"}
+    changing = {"pick", "wake", "tick", "sleep", "doze", "take", "put", "put_asleep", "yield", "run", "stop", "set"}
     apart = one.call in changing and other.call in changing and one.call != other.call and one.queue == other.queue
     return [other, one] if apart else None
 
@@ -255,6 +274,7 @@ CHANGES = {
     "a yield is left out": left_out("yield"),
     "a stop is left out": left_out("stop"),
     "a task is taken and the take is left out": left_out("take"),
+    "another number of a task in a hand": another_number,
     "another level of a new task": another_level("admit"),
     "another level of a task that is set": another_level("set"),
     "two calls are turned round": turned,

@@ -72,7 +72,6 @@ extern s64 queues_set_weight(struct task_struct *p) __ksym;
 /* Linux's, beside those of names.bpf.h. */
 extern void bpf_task_release(struct task_struct *p) __ksym;
 extern void scx_bpf_dispatch_cancel(void) __ksym;
-extern s32 scx_bpf_task_cpu(const struct task_struct *p) __ksym;
 extern void scx_bpf_kick_cpu(s32 cpu, u64 flags) __ksym;
 extern __u32 scx_bpf_reenqueue_local(void) __ksym;
 extern void scx_bpf_error_bstr(char *text, unsigned long long *numbers, __u32 size) __ksym;
@@ -108,14 +107,15 @@ void BPF_PROG(on_enqueue, struct task_struct *p, u64 flags)
 	for (cpu = 0; cpu < MAX_CPUS; cpu++)
 		if (told & 1ull << cpu)
 			scx_bpf_kick_cpu(cpu, KICK_IDLE);
-	if (told & PREEMPT_HOME)
-		scx_bpf_kick_cpu(scx_bpf_task_cpu(p), KICK_PREEMPT);
+	if (told & PREEMPT)
+		scx_bpf_kick_cpu(told >> CPU_SHIFT & (MAX_CPUS - 1), KICK_PREEMPT);
 }
 
 SEC("struct_ops/dequeue")
 void BPF_PROG(on_dequeue, struct task_struct *p, u64 flags)
 {
-	look_at(queues_take_back(p, flags & FALLS_ASLEEP));
+	if (is_taken_back(flags, FALLS_ASLEEP))
+		look_at(queues_take_back(p, flags & FALLS_ASLEEP));
 }
 
 /*

@@ -14,62 +14,18 @@
  * fail. 3 waits before and after the second look at a task that comes from another CPU, and 4 waits
  * and doesn't look. 5 keeps what tasks have that end, or go to another class of Linux's.
  */
-int planted;
+static int planted;
 module_param(planted, int, 0644);
+
+bool is_planted(int fault)
+{
+	return READ_ONCE(planted) == fault;
+}
 
 atomic64_t picked, run_unpicked, cancelled;
 
 /* A bit for each CPU that has found nothing to do. It is set before the CPU tries the others. */
 static unsigned long looking;
-
-s64 begin_number(struct task_struct *linux_task)
-{
-	return begin_task(linux_task);
-}
-
-static eevdf_block take_out(struct task *task)
-{
-	eevdf_block block = { NULL };
-	struct cpu_queue *queue = lock_home(task);
-
-	if (!queue)
-		return block;
-	if (queue->on_cpu == task->linux_task) {
-		charge(queue);
-		queue->on_cpu = NULL;
-	}
-	is_taken_back(task);
-	call_end(queue, &block, number_of(task));
-	WRITE_ONCE(task->home, NOWHERE);
-	unlock_queue(queue);
-	return block;
-}
-
-void end_number(struct task_struct *linux_task)
-{
-	struct task *task = task_of(linux_task);
-
-	if (task && planted != 5)
-		end_task(task, take_out(task));
-}
-
-void leave(struct task_struct *linux_task)
-{
-	struct task *task = task_of(linux_task);
-
-	if (task && planted != 5)
-		give_block(take_out(task));
-}
-
-int place(struct task_struct *linux_task, int cpu)
-{
-	int least = cpu, other;
-
-	for_each_cpu_and(other, linux_task->cpus_ptr, cpu_online_mask)
-		if (READ_ONCE(queue_of(other)->load_hint) < READ_ONCE(queue_of(least)->load_hint))
-			least = other;
-	return least;
-}
 
 /*
  * Which CPUs are told of a task that has come: each that looks for work, where two tasks are here;
@@ -77,16 +33,16 @@ int place(struct task_struct *linux_task, int cpu)
  */
 static s64 whom_to_tell(struct cpu_queue *queue)
 {
-	s64 told = 0, running = call_running(queue);
+	s64 told = (s64)queue->cpu << CPU_SHIFT, running = call_running(queue);
 
 	write_hints(queue);
 	smp_mb();	/* with that of pick(): either the task is seen there, or the bit here */
 	if (queue->tasks_hint >= 2)
-		told = READ_ONCE(looking) & ~BIT(queue->cpu);
+		told |= READ_ONCE(looking) & ~BIT(queue->cpu);
 	if (running < 0)
 		told |= BIT(queue->cpu);
 	else if (queue->on_cpu && (queue->is_due || call_peek(queue) != running))
-		told |= PREEMPT_HOME;
+		told |= PREEMPT;
 	return told;
 }
 
@@ -94,6 +50,29 @@ static s64 whom_to_tell(struct cpu_queue *queue)
 static s64 stop_waiting_one(struct cpu_queue *queue, u64 number)
 {
 	return call_running(queue) == number ? call_stop(queue) : 0;
+}
+
+/*
+ * Takes the lock of the queue where a task is to wait: that of the CPU where Linux has it, or where
+ * 1024 are runnable there another one where it may run. NULL where that is so on all of these.
+ */
+static struct cpu_queue *settle(struct task *task)
+{
+	struct task_struct *linux_task = task->linux_task;
+	struct cpu_queue *queue = bring(task, task_cpu(linux_task));
+	int cpu;
+
+	if (may_run(linux_task, queue->cpu))
+		return queue;
+	for_each_cpu_and(cpu, linux_task->cpus_ptr, cpu_online_mask) {
+		unlock_queue(queue);
+		queue = bring(task, cpu);
+		if (may_run(linux_task, queue->cpu))
+			return queue;
+	}
+	fail(queue, CALL_PUT_ASLEEP, task->number, -ENOSPC);
+	unlock_queue(queue);
+	return NULL;
 }
 
 s64 enqueue(struct task_struct *linux_task)
@@ -104,16 +83,18 @@ s64 enqueue(struct task_struct *linux_task)
 
 	if (!task)
 		return -ESRCH;
-	if (planted == 1 && !strcmp(linux_task->comm, "lost"))
+	if (is_planted(1) && !strcmp(linux_task->comm, "lost"))
 		return 0;
-	queue = bring(task, task_cpu(linux_task));
-	if (planted == 2)
+	queue = settle(task);
+	if (!queue)
+		return -ENOSPC;
+	if (is_planted(2))
 		call_wake(queue, EEVDF_TASKS);
 	answer = charge(queue);
 	if (answer >= 0)
 		answer = make_runnable(queue, task);
 	if (answer >= 0)
-		answer = stop_waiting_one(queue, number_of(task));
+		answer = stop_waiting_one(queue, task->number);
 	if (answer >= 0) {
 		is_left_to_us(queue, task);
 		answer = whom_to_tell(queue);
@@ -125,11 +106,12 @@ s64 enqueue(struct task_struct *linux_task)
 s64 take_back(struct task_struct *linux_task, bool falls_asleep)
 {
 	struct task *task = task_of(linux_task);
-	struct cpu_queue *queue = task ? lock_home(task) : NULL;
+	struct cpu_queue *queue;
 	s64 answer;
 
-	if (!queue)
+	if (!task)
 		return 0;
+	queue = lock_home(task);
 	answer = charge(queue);
 	if (answer >= 0)
 		answer = put_to_sleep(queue, task, falls_asleep);
@@ -157,25 +139,51 @@ static s64 run_unpicked_one(struct cpu_queue *queue, struct task *task)
 	s64 answer = make_runnable(queue, task);
 
 	atomic64_inc(&run_unpicked);
-	return answer < 0 ? answer : call_run(queue, number_of(task));
+	return answer < 0 ? answer : call_run(queue, task->number);
+}
+
+/*
+ * Linux has chosen a task that the CPU's queue has no room for, where 1024 are runnable: it runs
+ * for one of Linux's slices, as one of another class does. Gives the lock back, which is that of
+ * its home.
+ */
+static s64 run_beside(struct cpu_queue *home, struct task *task, int cpu)
+{
+	struct cpu_queue *queue = queue_of(cpu);
+	s64 answer = put_to_sleep(home, task, false);
+
+	unlock_queue(home);
+	lock_queue(queue);
+	if (call_running(queue) >= 0)
+		call_stop(queue);
+	unlock_queue(queue);
+	atomic64_inc(&run_unpicked);
+	task->linux_task->scx.slice = SCX_SLICE_DFL;
+	return answer;
+}
+
+/* A task runs on this CPU from now on, whether it was picked or not. */
+static s64 run_here(struct task *task, int cpu)
+{
+	struct cpu_queue *queue = bring(task, cpu);
+	s64 answer = 0;
+
+	if (queue->cpu != cpu)
+		return run_beside(queue, task, cpu);
+	charge(queue);
+	is_taken_back(task);
+	if (call_running(queue) != task->number)
+		answer = run_unpicked_one(queue, task);
+	begin_turn(queue, task->linux_task);
+	unlock_queue(queue);
+	return answer;
 }
 
 s64 start(struct task_struct *linux_task)
 {
 	struct task *task = task_of(linux_task);
-	struct cpu_queue *queue;
-	s64 answer = 0;
 
-	if (!task)
-		return -ESRCH;
-	queue = bring(task, task_cpu(linux_task));
-	charge(queue);
-	is_taken_back(task);
-	if (call_running(queue) != number_of(task))
-		answer = run_unpicked_one(queue, task);
-	begin_turn(queue, linux_task);
-	unlock_queue(queue);
-	return answer;
+	return task ? run_here(task, task_cpu(linux_task)) : -ESRCH;
 }
 
 s64 stop(struct task_struct *linux_task)
@@ -201,17 +209,8 @@ static struct task *task_that_ran(void)
 s64 go_on(int cpu)
 {
 	struct task *task = task_that_ran();
-	struct cpu_queue *queue;
-	s64 answer = 0;
 
-	if (!task)
-		return 0;
-	queue = bring(task, cpu);
-	if (call_running(queue) != number_of(task))
-		answer = run_unpicked_one(queue, task);
-	begin_turn(queue, current);
-	unlock_queue(queue);
-	return answer;
+	return task ? run_here(task, cpu) : 0;
 }
 
 /* Takes the queue's lock, with a task of another CPU where one came over. */
@@ -236,14 +235,14 @@ static struct cpu_queue *lock_with_pulled(int cpu)
 /* Time for other CPUs to change what was picked, where that is planted. */
 static void wait_for_others(int cpu, const struct task_struct *linux_task)
 {
-	if (planted >= 3 && task_cpu(linux_task) != cpu)
+	if ((is_planted(3) || is_planted(4)) && task_cpu(linux_task) != cpu)
 		mdelay(3);
 }
 
 struct task_struct *pick(int cpu)
 {
 	struct cpu_queue *queue = lock_with_pulled(cpu);
-	struct task *task = task_by_number(call_pick(queue));
+	struct task *task = task_by_number(queue, call_pick(queue));
 	struct task_struct *dispatched = NULL;
 
 	queue->is_due = false;
@@ -254,7 +253,7 @@ struct task_struct *pick(int cpu)
 	else if (task && task->is_ours)
 		dispatched = task->linux_task;
 	else if (task)
-		fail(queue, CALL_PICK, number_of(task), -EPERM);
+		fail(queue, CALL_PICK, task->number, -EPERM);
 	unlock_queue(queue);
 	if (dispatched)
 		wait_for_others(cpu, dispatched);
@@ -272,13 +271,13 @@ bool confirm(int cpu, struct task_struct *linux_task)
 	bool is_confirmed;
 
 	lock_queue(queue);
-	is_confirmed = task && task->home == cpu && may_come(task, cpu) &&
-		       call_running(queue) == number_of(task);
+	is_confirmed = task && READ_ONCE(task->home) == cpu && may_come(task, cpu) &&
+		       call_running(queue) == task->number;
 	unlock_queue(queue);
 	wait_for_others(cpu, linux_task);
 	if (!is_confirmed)
 		atomic64_inc(&cancelled);
-	return is_confirmed || planted == 4;
+	return is_confirmed || is_planted(4);
 }
 
 /* Linux's own tick is a net below the timer. */
@@ -310,23 +309,25 @@ s64 yield_turn(struct task_struct *linux_task)
 		answer = charge(queue);
 		if (call_len(queue) >= 2)
 			call_yield(queue);
-		linux_task->scx.slice = 0;
 	}
+	linux_task->scx.slice = 0;
 	unlock_queue(queue);
 	return answer;
 }
 
+/* A task that is in no queue has its level when it comes. */
 s64 change_weight(struct task_struct *linux_task)
 {
 	struct task *task = task_of(linux_task);
-	struct cpu_queue *queue = task ? lock_home(task) : NULL;
+	struct cpu_queue *queue;
 	s64 answer;
 
-	if (!queue)
+	if (!task)
 		return 0;
+	queue = lock_home(task);
 	answer = charge(queue);
-	if (answer >= 0)
-		answer = call_set(queue, number_of(task), nice_of(linux_task), slice_ns());
+	if (answer >= 0 && task->number != NO_NUMBER)
+		answer = call_set(queue, task->number, nice_of(linux_task), slice_ns());
 	unlock_queue(queue);
 	return answer;
 }

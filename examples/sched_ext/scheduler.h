@@ -1,6 +1,6 @@
 /*
- * scheduler.h: what Linux tells of its tasks, as operations on the queues. All but begin_number are
- * done with interrupts off, and those of a task under Linux's lock of its run queue. A number below
+ * scheduler.h: what Linux tells of its tasks, as operations on the queues. All but begin() are done
+ * with interrupts off, and those of a task under Linux's lock of its run queue. A number below
  * 0 says what has failed.
  */
 #ifndef SCHEDULER_H
@@ -8,13 +8,16 @@
 
 #include "queues.h"
 
-/* A task that was forked, or was there before the scheduler; and one that has ended. */
-s64 begin_number(struct task_struct *linux_task);
-void end_number(struct task_struct *linux_task);
-/* A task goes to another class of Linux's: it is in no queue then. */
+/*
+ * A task that was forked, or was there before the scheduler: 0, or -EAGAIN where no CPU where it
+ * may run has room for it; and one that has ended.
+ */
+s64 begin(struct task_struct *linux_task);
+void end(struct task_struct *linux_task);
+/* A task goes to another class of Linux's: it is in no queue then, and belongs to one still. */
 void leave(struct task_struct *linux_task);
 
-/* The CPU where a task goes that was just forked: the one of least load. */
+/* The CPU where a task goes that was just forked: of those with room the one of least load. */
 int place(struct task_struct *linux_task, int cpu);
 
 /* A task waits for its turn. Answers which CPUs have to be told, by the bits of common.h. */
@@ -38,7 +41,9 @@ s64 tick(struct task_struct *linux_task);
 s64 yield_turn(struct task_struct *linux_task);
 s64 change_weight(struct task_struct *linux_task);
 
-extern int planted;
+/* Whether that fault is planted. Linux writes the parameter without a lock. */
+bool is_planted(int fault);
+
 extern atomic64_t picked, run_unpicked, cancelled;
 
 #endif

@@ -1,48 +1,70 @@
 /*
- * tasks.c: numbers and blocks of memory. A number is a task's from its fork to its end, so 1024
- * tasks have one, and the next fork is refused. The number that was given back last is taken
- * first, and those that nobody has had yet in ascending order. No call of the library asks for
- * memory: each task has a block of the module's.
+ * tasks.c: the tasks, and blocks of memory. There are as many of each as all queues have numbers.
+ * No call of the library asks for memory: each task that is in a queue has a block of the module's.
  */
 #include "tasks.h"
 
-static struct task tasks[EEVDF_TASKS];
-static u64 blocks[EEVDF_TASKS][EEVDF_TASK_SIZE / sizeof(u64)];
+#include <linux/slab.h>
+
+struct block {
+	u64 words[EEVDF_TASK_SIZE / sizeof(u64)];
+};
+
+static unsigned int count;	/* of tasks, and of blocks */
+static struct task *tasks;
+static struct block *blocks;
 
 static DEFINE_RAW_SPINLOCK(pool_lock);
-static u16 free_numbers[EEVDF_TASKS];
-static void *free_blocks[EEVDF_TASKS];
-static unsigned int free_number_count, free_block_count;
+static struct task **free_tasks;
+static void **free_blocks;
+static unsigned int free_task_count, free_block_count;
 
-/* With the numbers in descending order, 0 is the first to be taken. */
-void begin_tasks(void)
+int begin_tasks(unsigned int cpus)
 {
-	for (unsigned int at = 0; at < EEVDF_TASKS; at++) {
-		free_numbers[at] = EEVDF_TASKS - 1 - at;
-		free_blocks[at] = blocks[at];
-		tasks[at] = (struct task){ .home = NOWHERE };
+	count = cpus * EEVDF_TASKS;
+	tasks = kvcalloc(count, sizeof *tasks, GFP_KERNEL);
+	blocks = kvcalloc(count, sizeof *blocks, GFP_KERNEL);
+	free_tasks = kvcalloc(count, sizeof *free_tasks, GFP_KERNEL);
+	free_blocks = kvcalloc(count, sizeof *free_blocks, GFP_KERNEL);
+	if (!tasks || !blocks || !free_tasks || !free_blocks) {
+		end_tasks();
+		return -ENOMEM;
+	}
+	for (unsigned int at = 0; at < count; at++) {
+		free_tasks[at] = &tasks[count - 1 - at];
+		free_blocks[at] = &blocks[at];
+		tasks[at] = (struct task){ .home = NOWHERE, .number = NO_NUMBER };
 		INIT_LIST_HEAD(&tasks[at].waiting);
 	}
-	free_number_count = EEVDF_TASKS;
-	free_block_count = EEVDF_TASKS;
+	free_task_count = free_block_count = count;
+	return 0;
 }
 
-/* sched_ext lets a scheduler keep a number there, where no dispatch goes by a virtual time. */
-int begin_task(struct task_struct *linux_task)
+void end_tasks(void)
 {
-	int answer = -EAGAIN;
+	kvfree(free_blocks);
+	kvfree(free_tasks);
+	kvfree(blocks);
+	kvfree(tasks);
+}
+
+/*
+ * sched_ext lets a scheduler keep a number there, where no dispatch goes by a virtual time. So many
+ * tasks there are that whoever finds room in a queue finds one.
+ */
+struct task *begin_task(struct task_struct *linux_task)
+{
+	struct task *task = NULL;
 	unsigned long flags;
 
 	raw_spin_lock_irqsave(&pool_lock, flags);
-	if (free_number_count) {
-		struct task *task = &tasks[free_numbers[--free_number_count]];
-
-		task->linux_task = linux_task;
+	if (free_task_count) {
+		task = free_tasks[--free_task_count];
+		WRITE_ONCE(task->linux_task, linux_task);
 		linux_task->scx.dsq_vtime = task - tasks;
-		answer = 0;
 	}
 	raw_spin_unlock_irqrestore(&pool_lock, flags);
-	return answer;
+	return task;
 }
 
 void end_task(struct task *task, eevdf_block block)
@@ -51,31 +73,26 @@ void end_task(struct task *task, eevdf_block block)
 
 	give_block(block);
 	raw_spin_lock_irqsave(&pool_lock, flags);
-	task->linux_task = NULL;
-	free_numbers[free_number_count++] = task - tasks;
+	WRITE_ONCE(task->linux_task, NULL);
+	free_tasks[free_task_count++] = task;
 	raw_spin_unlock_irqrestore(&pool_lock, flags);
 }
 
-struct task *task_by_number(s64 number)
+struct task *task_at(unsigned int at)
 {
-	return number >= 0 && number < EEVDF_TASKS ? &tasks[number] : NULL;
+	return at < count ? &tasks[at] : NULL;
 }
 
 struct task *task_of(const struct task_struct *linux_task)
 {
-	u64 number = linux_task->scx.dsq_vtime;
+	u64 at = linux_task->scx.dsq_vtime;
 
-	if (number >= EEVDF_TASKS || tasks[number].linux_task != linux_task)
+	if (at >= count || READ_ONCE(tasks[at].linux_task) != linux_task)
 		return NULL;
-	return &tasks[number];
+	return &tasks[at];
 }
 
-u64 number_of(const struct task *task)
-{
-	return task - tasks;
-}
-
-/* There are as many blocks as numbers, so whoever has a number gets one. */
+/* There are as many blocks as tasks, so each task gets one. */
 eevdf_block take_block(void)
 {
 	eevdf_block block = { NULL };
@@ -99,14 +116,14 @@ void give_block(eevdf_block block)
 	raw_spin_unlock_irqrestore(&pool_lock, flags);
 }
 
-unsigned int numbers_taken(void)
+unsigned int tasks_taken(void)
 {
-	return EEVDF_TASKS - free_number_count;
+	return count - free_task_count;
 }
 
 unsigned int blocks_taken(void)
 {
-	return EEVDF_TASKS - free_block_count;
+	return count - free_block_count;
 }
 
 /* A task of SCHED_IDLE is as light as the lightest nice level. */
