@@ -1,8 +1,8 @@
 #!/usr/bin/env -S python3 -B
 """checks/phases/check.py: compares what the built program `eevdf_phases` makes of workloads of phases with a plain model of docs/phases.md:
-of those of examples/phases/, and of drawn ones until so many deeds are compared. `eevdf solo` has to take each script and give the answers
-that the program rested on. Faulty workloads have to be refused with their lines, and hostile ones answered within bounds. The last line is
-'N passed, M failed'."""
+of those of examples/phases/, and of drawn ones until so many deeds are compared. `eevdf solo --times` has to take each script and give the
+answers that the program rested on, each at its moment. Faulty workloads have to be refused with their lines, and hostile ones answered
+within bounds. The last line is 'N passed, M failed'."""
 
 import argparse
 import resource
@@ -14,13 +14,15 @@ HERE = Path(__file__).resolve().parent
 sys.path[:0] = [str(HERE), str(HERE.parent)]
 
 from document import read  # noqa: E402
-from drawing import LONG_REQUEST, MANY_WAITS, draw  # noqa: E402
+from drawing import LONG_REQUEST, MANY_WAITS, UNRESUMED, UNRESUMED_SAID, draw  # noqa: E402
 from faulty import faulty  # noqa: E402
 from figures import figure_lines  # noqa: E402
-from hostile import HOSTILE, MANY_DEEDS, ROWS_OF_MANY  # noqa: E402
-from moments import fall_of, moment_of  # noqa: E402
+from hostile import HOSTILE, MANY_DEEDS, MANY_TASKS, ROWS_OF_MANY, ROWS_OF_MANY_TASKS  # noqa: E402
+from model import Machine  # noqa: E402
+from moments import fall_of, moment_of, reported_by_cpu, timed_by_cpu  # noqa: E402
 from runner import TOP, Checks, Printed, built  # noqa: E402
-from script import MOST_BYTES, MOST_DEEDS, run_lines, script_lines  # noqa: E402
+from script import MOST_BYTES, MOST_DEEDS, run_lines, script_lines, suspended_text  # noqa: E402
+from traces import check_traces  # noqa: E402
 from words import check_words  # noqa: E402
 
 # At least so many workloads are drawn.
@@ -49,40 +51,22 @@ def first_difference(lines, expected):
     return None if len(lines) == len(expected) else f"{len(lines)} lines, and not {len(expected)}"
 
 
-def answers_by_cpu(lines):
-    """The deeds with their answers, by CPU, as a report has them: of lines as `1.500000 name: 0 pick: picked 1`."""
-    by_cpu = {}
-    for line in lines:
-        cpu, deed = line.split(": ", 1)[1].split(" ", 1)
-        by_cpu.setdefault(cpu, []).append(deed)
-    return by_cpu
-
-
-def reported_by_cpu(lines):
-    by_cpu = {}
-    for line in lines:
-        if line.startswith("cpu "):
-            cpu, is_deed = line[4:], True
-        elif line.startswith("load "):
-            is_deed = False
-        elif is_deed:
-            by_cpu.setdefault(cpu, []).append(line)
-    return by_cpu
-
-
 def difference(programs, text):
     """What differs from the model, or None, and how many deeds were compared."""
     data = text.encode()
     plan = read(text)
     scripted, run, figures = (programs.run("eevdf_phases", flag, data) for flag in ([], ["--run"], ["--stats"]))
-    if scripted.status or run.status or figures.status:
-        return f"is answered {scripted.errors!r}, {run.errors!r} and {figures.errors!r}", 0
-    expected = list(run_lines(plan))
+    machine = Machine(plan)
+    expected = list(run_lines(plan, machine))
+    said = suspended_text(machine).encode()
+    for printed in (scripted, run, figures):
+        if (printed.status, printed.errors) != (0, said):
+            return f"is answered {printed.errors!r}, with the status {printed.status}", 0
     differs = (first_difference(lines_of(run), expected) or first_difference(lines_of(scripted), list(script_lines(plan)))
                or first_difference(lines_of(figures), list(figure_lines(plan))) or fall_of(lines_of(run)))
-    solo = programs.run("eevdf", ["solo"], scripted.out)
-    if not differs and (solo.status or reported_by_cpu(lines_of(solo)) != answers_by_cpu(expected)):
-        differs = "`eevdf solo` gives other answers"
+    solo = programs.run("eevdf", ["solo", "--times"], scripted.out)
+    if not differs and (solo.status or reported_by_cpu(lines_of(solo)) != timed_by_cpu(expected)):
+        differs = "`eevdf solo --times` gives other answers or times"
     return differs, len(expected)
 
 
@@ -90,15 +74,25 @@ def check_examples(checks, programs):
     for file in sorted((TOP / "examples" / "phases").glob("*.toml")):
         differs, deeds = difference(programs, file.read_text())
         figures = programs.run("eevdf_phases", ["--stats", file])
-        if not differs and figures != Printed(file.with_suffix(".out").read_bytes()):
+        if not differs and (figures.status, figures.out) != (0, file.with_suffix(".out").read_bytes()):
             differs = f"has the figures {figures}"
         checks.look(f"{file.name}, {deeds} deeds", differs)
 
 
 def check_rare(checks, programs):
-    for name, text in (("more than a second of a request is left", LONG_REQUEST), ("more than a hundred waits", MANY_WAITS)):
+    for name, text in (("more than a second of a request is left", LONG_REQUEST), ("more than a hundred waits", MANY_WAITS),
+                       ("tasks that nobody resumes", UNRESUMED)):
         differs, deeds = difference(programs, text)
         checks.look(f"{name}, {deeds} deeds", differs)
+
+
+def check_unresumed(checks, programs):
+    """Who waits to be resumed at the end is told behind the output, and is no fault."""
+    text = UNRESUMED.encode()
+    for flag in ([], ["--run"], ["--stats"]):
+        printed = programs.run("eevdf_phases", flag, text)
+        is_right = printed.out and (printed.status, printed.errors) == (0, UNRESUMED_SAID)
+        checks.expect(f"tasks that nobody resumes, {flag}", printed, is_right)
 
 
 def check_drawn(checks, programs, words):
@@ -161,18 +155,28 @@ def check_many_deeds(checks, programs):
     checks.look("--run of many deeds", fall_of(lines) if is_right else f"status {answers.status}, {len(lines)} lines, {lines[-1:]}")
 
 
+def check_many_tasks(checks, programs):
+    """There may be a million tasks, in the memory of their numbers."""
+    figures = programs.run("eevdf_phases", ["--stats"], MANY_TASKS.encode(), limits={resource.RLIMIT_AS: MEMORY})
+    is_right = figures.status == 0 and lines_of(figures)[1:] == ROWS_OF_MANY_TASKS
+    checks.look("a million tasks", None if is_right else f"{figures}", f"{figures.processor:.1f} s")
+
+
 def main():
     words = parse_words()
     programs = built("eevdf", "eevdf_phases")
     checks = Checks()
     check_examples(checks, programs)
     check_rare(checks, programs)
+    check_unresumed(checks, programs)
     check_drawn(checks, programs, words)
     check_faults(checks, programs)
     check_words(checks, programs)
     check_hostile(checks, programs)
     check_full_size(checks, programs)
     check_many_deeds(checks, programs)
+    check_many_tasks(checks, programs)
+    check_traces(checks, programs, words)
     return checks.end()
 
 

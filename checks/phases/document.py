@@ -12,7 +12,11 @@ class Kind:
     """Tasks of one name."""
 
     name: str
+    # how many numbers they have
     count: int
+    # how long one arrives after the other, where they do, and how many in all
+    every: tuple | None
+    arrivals: int | None
     home: int | None
     nice: int
     slice: int
@@ -57,7 +61,9 @@ def phase_of(phase):
 
 
 def kind_of(task):
-    return Kind(task["name"], task.get("count", 1), task.get("home"), task.get("nice", 0), length_of(task.get("slice", "3ms")),
+    every = range_of(task["every"]) if "every" in task else None
+    count, arrivals = (task.get("count", 1), None) if every is None else (task["at_once"], task.get("count"))
+    return Kind(task["name"], count, every, arrivals, task.get("home"), task.get("nice", 0), length_of(task.get("slice", "3ms")),
                 length_of(task.get("begins", "0")), [phase_of(phase) for phase in task["phases"]])
 
 

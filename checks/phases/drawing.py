@@ -34,6 +34,36 @@ slice = "300us"
 phases = [{ run = "10us..90us" }, { sleep = "1us..2ms" }]
 '''
 
+# A resume is kept for `none`, and one for `pair`, which the first of the two takes.
+UNRESUMED = '''version = 1
+[machine]
+cpus = 2
+lasts = "10ms"
+[[task]]
+name = "wakes"
+home = 0
+phases = [{ run = "1ms" }, { resume = "three" }, { resume = "none" }, { resume = "pair" }, { sleep = "1s" }]
+[[task]]
+name = "three"
+count = 3
+home = 1
+phases = [{ run = "100us" }, "suspend"]
+[[task]]
+name = "none"
+home = 1
+begins = "2ms"
+phases = ["suspend", { run = "1s" }]
+[[task]]
+name = "pair"
+count = 2
+home = 0
+begins = "3ms"
+phases = [{ run = "100us" }, "suspend", { run = "100us" }, "end"]
+'''
+UNRESUMED_SAID = b"""three: 3 tasks wait to be resumed at the end
+pair: 1 task waits to be resumed at the end
+"""
+
 LENGTHS = ["37us", "100us", "250us", "1ms", "1500us", "2ms", "3ms", "7ms", "999999ns"]
 RANGES = ["100us..900us", "1ms..4ms", "1ns..2ms", "3ms..3ms"]
 
@@ -70,7 +100,13 @@ def phases(random, names, depth=0):
 
 def task(random, name, names, cpus):
     lines = ["[[task]]", f'name = "{name}"']
-    if random.random() < 0.5:
+    arrive = random.random() < 0.25
+    if arrive:
+        lines.append(f'every = "{length(random)}"')
+        lines.append(f"at_once = {random.randint(1, 5)}")
+        if random.random() < 0.5:
+            lines.append(f"count = {random.randint(1, 20)}")
+    elif random.random() < 0.5:
         lines.append(f"count = {random.randint(1, 5)}")
     if random.random() < 0.5:
         lines.append(f"home = {random.randrange(cpus)}")
@@ -80,7 +116,8 @@ def task(random, name, names, cpus):
         lines.append(f'slice = "{random.choice(["100us", "500us", "1ms", "10ms", "100ms"])}"')
     if random.random() < 0.2:
         lines.append(f'begins = "{random.choice(LENGTHS)}"')
-    lines.append(f"phases = [{phases(random, names)}]")
+    end = ', "end"' if arrive else ""
+    lines.append(f"phases = [{phases(random, names)}{end}]")
     return lines
 
 

@@ -24,6 +24,8 @@ NAME = "a text of 1 to 64 letters, digits, - and _, and not - alone"
 LOOP, CLOSED = "{ loop = 2, phases = [", "] }"
 # what the kit's reader of TOML says
 NOT_TOML, NO_VALUE = "not a TOML document", "invalid value, expected a string, number, boolean, date-time, array or inline table"
+NO_END = "no phase is the end of the tasks that arrive"
+ARRIVES = 'name = "b"\nevery = "1ms"\nat_once = 2'
 NO_TIME = "a list of phases without run, sleep, timer or end takes no time"
 
 # (what is replaced, by what, the line)
@@ -71,6 +73,23 @@ FAULTS = [
     ('name = "b"', 'name = "b"\nslice = «"99us"»', "task 1: bad value of slice, which is a length of time from 100us to 100ms"),
     ('name = "b"', 'name = "b"\nslice = «3000000»', "task 1: bad value of slice, which is a length of time from 100us to 100ms"),
     ('name = "b"', 'name = "b"\n«begin» = "1ms"', 'task 1: unknown key "begin"; the nearest that is known is begins'),
+    ('name = "b"', 'name = "b"\nevery = «"0"»\nat_once = 2', f"task 1: bad value of every, which is {LENGTH_OR_RANGE}"),
+    ('name = "b"', 'name = "b"\nevery = «1»\nat_once = 2', f"task 1: bad value of every, which is {LENGTH_OR_RANGE}"),
+    ('name = "b"', 'name = "b"\nevery = «"0..1ms"»\nat_once = 2', f"task 1: bad value of every, which is {LENGTH_OR_RANGE}"),
+    ('name = "b"', 'name = "b"\nevery = «"2ms..1ms"»\nat_once = 2', f"task 1: bad value of every, which is {LENGTH_OR_RANGE}"),
+    ('name = "b"', 'name = "b"\nevery = "1ms"\nat_once = «0»', "task 1: bad value of at_once, which is a number from 1 to 1024"),
+    ('name = "b"', 'name = "b"\nevery = "1ms"\nat_once = «1025»', "task 1: bad value of at_once, which is a number from 1 to 1024"),
+    ('[[task]]\nname = "b"', '«[[task]]»\nname = "b"\nevery = "1ms"', "task 1: missing at_once"),
+    ('[[task]]\nname = "b"', '«[[task]]»\nname = "b"\nat_once = 2', "task 1: missing every"),
+    ('name = "b"', f'{ARRIVES}\ncount = «0»', "task 1: bad value of count, which is a number from 1 to 1000000000"),
+    ('name = "b"', f'{ARRIVES}\ncount = «1000000001»', "task 1: bad value of count, which is a number from 1 to 1000000000"),
+    ('name = "b"', 'name = "b"\n«evry» = "1ms"\nat_once = 2', 'task 1: unknown key "evry"; the nearest that is known is every'),
+    ('name = "b"', 'name = "b"\nevery = "1ms"\n«at_one» = 2', 'task 1: unknown key "at_one"; the nearest that is known is at_once'),
+    ('name = "b"\nphases = [{ sleep = "1ms" }]', ARRIVES + '\nphases = «[{ sleep = "1ms" }]»', f"task 1: {NO_END}"),
+    ('[[task]]\nname = "b"\nphases = [{ sleep = "1ms" }]', '«[[task]]»\nname = "b"\nevery = "1ms"\nat_once = 1024\nphases = ["end"]',
+     "task 1: more than 1024 tasks"),
+    ('name = "b"', 'name = "b"\nbegins = «"18446744073709551615ns"»',
+     'task 1: bad value of begins, which is a length of time, as "3ms", of 0 to 1000000s'),
     (f'[[task]]\nname = "a"\nphases = [{RUN}]', '«[[task]]»\nname = "a"', "task 0: missing phases"),
     (f"phases = [{RUN}]", "phases = «[]»", "task 0: bad value of phases, which is a list of 1 to 1000 phases"),
     (f"phases = [{RUN}]", f"phases = [{', '.join([RUN] * 1000)}, «{RUN}»]",
@@ -83,6 +102,11 @@ FAULTS = [
     (RUN, '{ run = «"0"» }', f"task 0, phase 0: bad value of run, which is {LENGTH_OR_RANGE}"),
     (RUN, '{ run = «"5ms..2ms"» }', f"task 0, phase 0: bad value of run, which is {LENGTH_OR_RANGE}"),
     (RUN, '{ run = «"1ms..2ms..3ms"» }', f"task 0, phase 0: bad value of run, which is {LENGTH_OR_RANGE}"),
+    (RUN, '{ run = «"1ms.."» }', f"task 0, phase 0: bad value of run, which is {LENGTH_OR_RANGE}"),
+    (RUN, '{ run = «"..1ms"» }', f"task 0, phase 0: bad value of run, which is {LENGTH_OR_RANGE}"),
+    (RUN, '{ run = «"1ms..1000000000001us"» }', f"task 0, phase 0: bad value of run, which is {LENGTH_OR_RANGE}"),
+    (RUN, '{ run = «"1ns..18446744073709551617ns"» }', f"task 0, phase 0: bad value of run, which is {LENGTH_OR_RANGE}"),
+    (RUN, '{ timer = «"1000000000000001ns"» }', f"task 0, phase 0: bad value of timer, which is {LENGTH}"),
     (RUN, '{ sleep = «".."» }', f"task 0, phase 0: bad value of sleep, which is {LENGTH_OR_RANGE}"),
     (RUN, '{ timer = «"0"» }', f"task 0, phase 0: bad value of timer, which is {LENGTH}"),
     (RUN, '{ timer = «"1ms..2ms"» }', f"task 0, phase 0: bad value of timer, which is {LENGTH}"),

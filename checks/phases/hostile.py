@@ -29,10 +29,25 @@ HOSTILE = {
                      '[machine]\nlasts = "1ms"\n', 1, b"fault: task 1024: more than 1024 tasks\n"),
     "999 resumes each nanosecond, and nobody suspended": (
         workload('lasts = "20us"', f'name = "a"\nphases = [{RESUMES}{{ run = "1ns" }}]', BESIDE), 0, b""),
+    "more tasks that arrive than can end": (
+        workload('cpus = 2\nlasts = "1000000s"', 'name = "a"\nevery = "1ns"\nat_once = 1024\nphases = [{ run = "1ns" }, "end"]'), 1, TOO_LONG),
+    "tasks that end as soon as they begin": (
+        workload('lasts = "1000000s"', 'name = "a"\nevery = "1ns"\nat_once = 1024\nphases = ["end"]'), 1, TOO_LONG),
+    "1024 names of which tasks arrive": (workload('lasts = "1000000s"', *(
+        f'name = "a{number}"\nevery = "1ns..1000000s"\nat_once = 1\nphases = [{{ run = "1ns" }}, "end"]' for number in range(1024))), 1,
+                                         TOO_LONG),
+    "arrivals at the ends of time": (
+        workload('lasts = "1000000s"', 'name = "a"\nevery = "1000000s"\nat_once = 2\nbegins = "1000000s"\nphases = ["end"]',
+                 'name = "b"\nphases = [{ sleep = "1000000s" }]'), 1, TOO_LONG),
     "out of range": (workload('lasts = "1000000s"\ntick = "1000000s"', 'name = "a"\nnice = 19\nphases = [{ run = "1000000s" }]'), 1,
                      TOO_LONG),
 }
 
+# Each of a million tasks takes the one number, since it ends before the next one arrives.
+MANY_TASKS = workload('lasts = "2s"', 'name = "a"\nevery = "2us"\nat_once = 1024\ncount = 1000000\nphases = [{ run = "1us" }, "end"]')
+ROWS_OF_MANY_TASKS = ["a: 1000000000, 50.00 %, 50.00 %; 1000000, 0, 0, 0; 0, 0, 0; 0; 0",
+                      "arrivals: begun, late, ended; stay mean ns, p99 ns, longest ns", "a: 1000000, 0, 1000000; 1000, 1000, 1000"]
+
 # It has 6 deeds in each 2 us.
 MANY_DEEDS = workload('lasts = "400ms"', 'name = "a"\nphases = [{ run = "1us" }, { sleep = "1us" }]')
-ROWS_OF_MANY = ["a: 200000000, 50.00 %, 50.00 %; 200000, 0, 0, 0; 200000; 0"]
+ROWS_OF_MANY = ["a: 200000000, 50.00 %, 50.00 %; 200000, 0, 0, 0; 0, 0, 0; 200000; 0"]

@@ -9,6 +9,7 @@ from plain.machine import Setup, Task, queues_at_start, whole  # noqa: E402
 
 WORD = (1 << 64) - 1
 LONGEST_TICK = 1000000000
+MOST_TASKS = 1024
 
 
 def words_from(state):
@@ -36,19 +37,48 @@ def for_ever(phases):
         yield from steps_of(phases)
 
 
+def generator_of(seed, number):
+    return words_from(seed ^ next(words_from(number)))
+
+
+def draw(words, bounds):
+    least, most = bounds
+    return least if least == most else least + next(words) % (most - least + 1)
+
+
+class Arrivals:
+    """The moments at which the tasks of a name arrive that haven't begun, of which the next one is drawn."""
+
+    def __init__(self, kind, place, seed):
+        self.kind, self.words = kind, generator_of(seed, MOST_TASKS + place)
+        self.left = kind.arrivals
+        self.next = kind.begins
+
+    def take(self):
+        arrived = self.next
+        self.next += draw(self.words, self.kind.every)
+        if self.left is not None:
+            self.left -= 1
+        return arrived
+
+
 class Actor:
     def __init__(self, number, kind, name, home, seed):
         self.number, self.kind, self.name, self.home = number, kind, name, home
-        self.words = words_from(seed ^ next(words_from(number)))
-        self.phases = for_ever(kind.phases)
+        self.words = generator_of(seed, number)
+        self.is_suspended = False
+        self.is_free = kind.every is not None
+        self.begin(kind.begins)
+        self.sleeps_until = kind.begins if kind.begins > 0 and not self.is_free else None
+
+    def begin(self, moment):
+        self.begun = moment
+        self.phases = for_ever(self.kind.phases)
         self.next_phase = next(self.phases)
         self.left = 0
-        self.sleeps_until = kind.begins if kind.begins > 0 else None
-        self.is_suspended = False
 
     def draw(self, bounds):
-        least, most = bounds
-        return least if least == most else least + next(self.words) % (most - least + 1)
+        return draw(self.words, bounds)
 
     def go_on(self):
         self.next_phase = next(self.phases)
@@ -74,10 +104,11 @@ class Machine:
                 name = kind.name if kind.count == 1 else f"{kind.name}.{number}"
                 home = number % plan.cpus if kind.home is None else kind.home
                 self.actors.append(Actor(len(self.actors), kind, name, home, plan.seed))
-        tasks = [Task(actor.home, actor.kind.nice, actor.kind.slice, 0, actor.kind.begins > 0) for actor in self.actors]
+        tasks = [Task(actor.home, actor.kind.nice, actor.kind.slice, 0, actor.is_free or actor.kind.begins > 0) for actor in self.actors]
         self.setup = Setup(tasks, [[] for _ in range(plan.cpus)])
         self.queues = queues_at_start(self.setup)
         self.cpus = [Cpu() for _ in range(plan.cpus)]
+        self.arrivals = [Arrivals(kind, place, plan.seed) for place, kind in enumerate(plan.kinds) if kind.every is not None]
         self.kept = {kind.name: 0 for kind in plan.kinds}
         self.now = 0
 
@@ -113,19 +144,24 @@ class Machine:
         words = answer.split()
         if words[0] in ("charged", "picked", "pulled"):
             return self.actors[int(words[1])].name
-        return self.actors[operation[1]].name if operation[0] in ("sleep", "doze", "wake", "renice", "end") else "-"
+        return self.actors[operation[1]].name if operation[0] in ("sleep", "doze", "wake", "renice", "begin", "end") else "-"
 
     def next_deed(self):
         while True:
             turns = [(moment, number) for number in range(len(self.cpus)) if (moment := self.next_turn(number)) is not None]
             sleeps = [(actor.sleeps_until, actor.number) for actor in self.actors if actor.sleeps_until is not None]
-            first = min([moment for moment, _number in turns + sleeps], default=self.plan.lasts)
+            comes = [(arrivals.next, place) for place, arrivals in enumerate(self.arrivals) if arrivals.left != 0 and self.free(arrivals.kind)]
+            # one that found no number free has come before now
+            first = max(self.now, min([moment for moment, _number in turns + sleeps + comes], default=self.plan.lasts))
             if first >= self.plan.lasts:
                 self.now = self.plan.lasts
                 return self.first_charge(range(len(self.cpus)))
             self.now = first
             if sleeps and min(sleeps)[0] == first:
                 return self.wake(self.actors[min(sleeps)[1]])
+            if comes and min(comes)[0] <= first:
+                arrivals = self.arrivals[min(comes)[1]]
+                return self.begin(self.free(arrivals.kind)[0], arrivals)
             deed = self.turn(min(turns)[1])
             if deed is not None:
                 return deed
@@ -143,6 +179,19 @@ class Machine:
             return charge
         actor.sleeps_until = None
         return actor.home, ("wake", actor.number, actor.home)
+
+    def free(self, kind):
+        return [actor for actor in self.actors if actor.kind is kind and actor.is_free]
+
+    def begin(self, actor, arrivals):
+        charge = self.charge(actor.home)
+        if charge is not None:
+            return charge
+        actor.arrived = arrivals.take()
+        actor.begin(self.now)
+        actor.is_free = False
+        actor.sleeps_until = self.now
+        return actor.home, ("begin", actor.number, actor.kind.nice, actor.kind.slice)
 
     # What a CPU does in its turn.
 
@@ -206,7 +255,7 @@ class Machine:
             elif word == "sleep":
                 return self.fall_asleep(number, actor, self.now + actor.draw(phase[1]))
             elif word == "timer":
-                begun = actor.kind.begins
+                begun = actor.begun
                 return self.fall_asleep(number, actor, begun + ((self.now - begun) // phase[1] + 1) * phase[1])
             elif word == "suspend":
                 if self.kept[actor.kind.name]:
@@ -216,6 +265,7 @@ class Machine:
                     return self.fall_asleep(number, actor, None)
             elif word == "end":
                 self.leave(number)
+                actor.is_free = actor.kind.every is not None
                 return number, ("end", actor.number)
             else:
                 self.cpus[number].picks = "at once"

@@ -32,10 +32,20 @@ def script_lines(plan):
         yield f"home = {actor.home}"
         yield f"nice = {actor.kind.nice}"
         yield f"slice = {actor.kind.slice}"
-        yield f"asleep = {'true' if actor.kind.begins > 0 else 'false'}"
+        yield f"asleep = {'true' if actor.kind.begins > 0 or actor.kind.every else 'false'}"
 
 
-def run_lines(plan):
-    """The deeds with their answers."""
-    for cpu, operation, answer, moment, name in Machine(plan).deeds():
+def run_lines(plan, machine=None):
+    """The deeds with their answers. A machine that is given is the plan's, and is driven to its end."""
+    for cpu, operation, answer, moment, name in (machine or Machine(plan)).deeds():
         yield f"{moment_text(moment)} {name}: {deed_text(cpu, operation)}: {answer}"
+
+
+def suspended_text(machine):
+    """What is said of the tasks that wait to be resumed when all has been done."""
+    lines = []
+    for kind in machine.plan.kinds:
+        waiting = sum(actor.is_suspended for actor in machine.actors if actor.kind is kind)
+        if waiting:
+            lines.append(f"{kind.name}: {'1 task waits' if waiting == 1 else f'{waiting} tasks wait'} to be resumed at the end\n")
+    return "".join(lines)

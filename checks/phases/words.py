@@ -6,8 +6,8 @@ from pathlib import Path
 
 from runner import TOP, Printed, run
 
-USAGE = "usage: eevdf_phases [--run|--stats] [FILE]\n"
-UNKNOWN = "words are --run or --stats, and the name of a file\n"
+USAGE = "usage: eevdf_phases [--from trace] [--run|--stats] [FILE]\n"
+UNKNOWN = "words are --run or --stats, --from trace, and the name of a file\n"
 TOGETHER = "--run and --stats exclude each other, and each stands once\n"
 TEXT = (TOP / "examples" / "phases" / "web-server.toml").read_bytes()
 
@@ -21,6 +21,13 @@ WORDS = [
     (["-", "-"], 'one file is read, and "-" is another\n'),
     (["--run", "--run"], TOGETHER),
     (["--run", "--stats"], TOGETHER),
+    (["--from", "trace", "--run", "--stats"], TOGETHER),
+    (["--from", "track"], 'unknown value "track" of --from, which is trace\n'),
+    (["--from", "--run"], 'unknown value "--run" of --from, which is trace\n'),
+    (["--run", "--from"], "behind --from stands trace\n"),
+    (["--from=track"], f'unknown word "--from=track"; {UNKNOWN}'),
+    (["--from", "trace", "--from=trace"], "--from stands once\n"),
+    (["--from", "trace", "a", "b"], 'one file is read, and "b" is another\n'),
     (["no-such-file"], "no-such-file: No such file or directory (os error 2)\n"),
     (["no\x1b[31mfile", "--run"], "no\\u{1b}[31mfile: No such file or directory (os error 2)\n"),
 ]

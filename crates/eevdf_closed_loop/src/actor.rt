@@ -13,6 +13,7 @@ pub(crate) enum Condition {
     Until(u64),
     /// It sleeps until it is resumed.
     Suspended,
+    /// It has ended, or none has begun with its number: where tasks arrive, the number is free.
     Ended,
 }
 
@@ -30,12 +31,24 @@ pub(crate) struct Actor {
     pub left: u64,
     /// The moment at which it began.
     pub begun: u64,
+    /// The moment at which it arrived, which is no later.
+    pub arrived: u64,
     /// How many rounds of each loop, by depth, it has gone through.
     pub rounds: [u64; Phase::DEPTHS],
     pub draws: Draws,
 }
 
 impl Actor {
+    /// A task that has arrived at a moment begins with this number: it is to wake at once. Lengths of time are drawn on.
+    pub fn begins(&mut self, arrived: u64, now: u64) {
+        self.condition = Condition::Until(now);
+        self.at = 0;
+        self.left = 0;
+        self.begun = now;
+        self.arrived = arrived;
+        self.rounds = [0; Phase::DEPTHS];
+    }
+
     /// Where it goes at the end of a loop.
     pub fn go_again(&mut self, first: usize, depth: usize, rounds: u64) {
         let Some(done) = self.rounds.get_mut(depth) else {

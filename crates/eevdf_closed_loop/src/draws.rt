@@ -1,6 +1,7 @@
 //! Lengths of time drawn from a seed, by the words of splitmix64.
 
 use crate::phase::Span;
+use eevdf_queue::TaskId;
 use rand_core::{Rng, SeedableRng};
 use rand_xoshiro::SplitMix64;
 
@@ -17,6 +18,11 @@ impl Draws {
         Draws {
             words: SplitMix64::seed_from_u64(seed ^ first),
         }
+    }
+
+    /// The words of the arrivals of the group at a place: those of a task of a number that no task has.
+    pub fn of_arrivals(seed: u64, place: usize) -> Draws {
+        Draws::of_task(seed, (place as u64).saturating_add(TaskId::COUNT as u64))
     }
 
     /// A length of time within a span. A span of one length takes no word.

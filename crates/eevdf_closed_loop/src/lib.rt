@@ -5,20 +5,25 @@
 #![tactic(auto)]
 
 mod actor;
+mod arrivals;
+mod begins;
 mod closed_loop;
 mod draws;
 mod opening;
+mod opening_faults;
 mod phase;
 mod phases_on;
+mod places;
 mod plan;
 mod processor;
 mod resumes;
 mod schedule;
+mod sleeps;
 mod stop;
 mod turns;
 
 pub use closed_loop::ClosedLoop;
 pub use opening::{OpenFault, setup_of};
 pub use phase::{Phase, Span};
-pub use plan::{FallAsleep, Group, Plan, Preempt};
+pub use plan::{Arrivals, FallAsleep, Group, Plan, Preempt};
 pub use stop::Stop;

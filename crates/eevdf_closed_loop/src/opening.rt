@@ -1,15 +1,19 @@
 //! The machine and the tasks of a plan at the start.
 
-ghost use Rattle.std.specs.Prelude.{◌≡◌, ◌≤◌, ◌++◌, length, IfOk, IfSome};
+ghost use Rattle.std.specs.Prelude.{◌≡◌, ◌≤◌, ◌+◌, ◌++◌, ◌⊎◌, true, length, Some, None, IfOk, IfErr};
+ghost use Rattle.eevdf_ops.specs.Numbers.{most_cpus};
+ghost use Rattle.eevdf_closed_loop.specs.declared.opening.OpenFault.TheVariants.{Memory};
+ghost use Rattle.eevdf_closed_loop.specs.Faults as faults;
 ghost use Rattle.eevdf_ops.specs.Setup.{cpus_of};
 ghost use Rattle.eevdf_closed_loop.specs.Tasks as given;
 
 use crate::actor::{Actor, Condition};
 use crate::draws::Draws;
+use crate::opening_faults::{group_fault, is_number_of_cpus};
 use crate::phase::Phase;
 use crate::plan::{Group, Plan};
 use crate::processor::Processor;
-use eevdf_ops::{CpuId, Op, Setup, SetupFault, TaskSpec};
+use eevdf_ops::{CpuId, Op, Setup, TaskSpec};
 use eevdf_queue::TaskId;
 use std::alloc::{AllocError, Global};
 
@@ -36,26 +40,38 @@ impl From<AllocError> for OpenFault {
     }
 }
 
-/// The setup of a plan: its tasks by group, each asleep that begins later than at 0, and a program without operations for each CPU.
+/// The setup of a plan: its tasks by group, each asleep that arrives or begins later than at 0, and a program without operations for each
+/// CPU. A plan that has a fault is refused with the first one; `Memory` may come in place of either answer.
 pub fn setup_of(alloc: Global, plan: &Plan) -> Result<Setup, OpenFault>
     ensures cpus { IfOk result (λ setup. cpus_of setup ≡ plan.now.cpus) }
     ensures tasks { IfOk result (λ setup. setup.tasks ≡ given.tasks_of plan.now.cpus plan.now.groups.items) }
     ensures some { IfOk result (λ setup. 1 ≤ length setup.tasks) }
+    ensures sound { IfOk result (λ _. faults.plan_fault plan.now ≡ None) }
+    ensures refused { IfErr result (λ fault. (fault ≡ Memory) ⊎ (faults.plan_fault plan.now ≡ Some fault)) }
 {
-    if plan.cpus == 0 || plan.cpus > CpuId::COUNT {
+    if !is_number_of_cpus(plan.cpus) {
         return Err(OpenFault::BadCpus);
     }
     let mut tasks = Vec::new(alloc);
     for (place, group) in plan.groups.iter().enumerate() {
-        well_formed(group, place, plan.groups.len())?;
-        push_tasks(&mut tasks, place, group, plan.cpus)?;
+        let fault = group_fault(group, place, tasks.len(), plan.cpus, plan.groups.len());
+        if let Some(fault) = fault {
+            return Err(fault);
+        }
+        if push_tasks(&mut tasks, group, plan.cpus).is_err() {
+            return Err(OpenFault::Memory);
+        }
     }
-    let programs = no_programs(alloc, plan.cpus)?;
+    if tasks.is_empty() {
+        return Err(OpenFault::BadTasks);
+    }
+    let Ok(programs) = no_programs(alloc, plan.cpus) else {
+        return Err(OpenFault::Memory);
+    };
+    // neither the tasks nor the programs have a fault
     match Setup::make(alloc, &tasks, &programs) {
         Ok(setup) => Ok(setup),
-        Err(SetupFault::Memory) => Err(OpenFault::Memory),
-        Err(SetupFault::BadCpus) => Err(OpenFault::BadCpus),
-        Err(_) => Err(OpenFault::BadTasks),
+        Err(_) => Err(OpenFault::Memory),
     }
 }
 
@@ -70,74 +86,37 @@ fn no_programs(alloc: Global, cpus: usize) -> Result<Vec<Vec<Op>>, AllocError>
     Ok(programs)
 }
 
-/// A fault where the group at a place has no phases, or one that can't be gone through where there are so many groups.
-fn well_formed(group: &Group, place: usize, groups: usize) -> Result<(), OpenFault> {
-    if group.phases.is_empty() {
-        return Err(OpenFault::NoPhases(place));
-    }
-    for (at, phase) in group.phases.iter().enumerate() {
-        if !can_be_gone_through(*phase, at, groups) {
-            return Err(OpenFault::BadPhase(place));
-        }
-    }
-    Ok(())
-}
-
-/// Whether a phase that stands at a place can be gone through where there are so many groups.
-fn can_be_gone_through(phase: Phase, at: usize, groups: usize) -> bool {
-    match phase {
-        Phase::Resume(resumed) => resumed < groups,
-        Phase::Again {
-            first,
-            depth,
-            rounds: _,
-        } => first <= at && depth < Phase::DEPTHS,
-        _ => true,
-    }
-}
-
-/// Adds the tasks of the group at a place.
-fn push_tasks(
-    tasks: &mut Vec<TaskSpec>,
-    place: usize,
-    group: &Group,
-    cpus: usize,
-) -> Result<(), OpenFault>
-    ensures { IfOk result (λ _. tasks.new.items ≡
+/// Adds the tasks of a group.
+fn push_tasks(tasks: &mut Vec<TaskSpec>, group: &Group, cpus: usize) -> Result<(), AllocError>
+    requires some { 1 ≤ cpus }
+    requires few { cpus ≤ most_cpus }
+    requires home { faults.is_home cpus group.now.home ≡ true }
+    ensures tasks { IfOk result (λ _. tasks.new.items ≡
         tasks.old.items ++ given.first_tasks cpus group.now group.now.count) }
+    ensures number { IfOk result (λ _. length tasks.new.items ≡ length tasks.old.items + group.now.count) }
 {
     for number in 0..group.count {
-        if tasks.len() >= TaskId::COUNT {
-            return Err(OpenFault::BadTasks);
-        }
-        let Some(home) = home_of(group, number, cpus) else {
-            return Err(OpenFault::BadHome(place));
-        };
-        tasks
-            .push(TaskSpec {
-                home,
-                nice: group.nice,
-                slice: group.slice,
-                start: 0,
-                asleep: group.begins > 0,
-            })
-            .map_err(AllocError::from)?;
+        tasks.push(TaskSpec {
+            home: home_of(group, number, cpus),
+            nice: group.nice,
+            slice: group.slice,
+            start: 0,
+            asleep: group.is_asleep_first(),
+        })?;
     }
     Ok(())
 }
 
-/// The home of a group's task of this number within the group, if it is a CPU.
-fn home_of(group: &Group, number: usize, cpus: usize) -> Option<CpuId>
-    ensures { IfSome result (λ home. home ≡ given.home_of cpus group.now.home number) }
+/// The home of a group's task of this number within the group.
+fn home_of(group: &Group, number: usize, cpus: usize) -> CpuId
+    requires some { 1 ≤ cpus }
+    requires few { cpus ≤ most_cpus }
+    requires home { faults.is_home cpus group.now.home ≡ true }
+    ensures { result ≡ given.home_of cpus group.now.home number }
 {
-    let home = match group.home {
-        Some(home) => home,
-        None => number.checked_rem(cpus)?,
-    };
-    if home < cpus {
-        CpuId::new(home as u64)
-    } else {
-        None
+    match group.home {
+        Some(home) => CpuId::numbered(home),
+        None => CpuId::numbered(number % cpus),
     }
 }
 
@@ -174,19 +153,27 @@ fn push_actors(
             id,
             home: setup.spec(id).home,
             group: place,
-            condition: if group.begins > 0 {
-                Condition::Until(group.begins)
-            } else {
-                Condition::Runnable
-            },
+            condition: condition_at_start(group),
             at: 0,
             left: 0,
             begun: group.begins,
+            arrived: group.begins,
             rounds: [0; Phase::DEPTHS],
             draws: Draws::of_task(seed, number),
         })?;
     }
     Ok(())
+}
+
+/// What the tasks of a group wait for at the start. The numbers of those that arrive are free.
+fn condition_at_start(group: &Group) -> Condition {
+    if group.arrivals.is_some() {
+        Condition::Ended
+    } else if group.begins > 0 {
+        Condition::Until(group.begins)
+    } else {
+        Condition::Runnable
+    }
 }
 
 /// The CPUs of a machine at the start.

@@ -2,7 +2,6 @@
 
 use crate::actor::Condition;
 use crate::phase::{Phase, Span};
-use crate::plan::FallAsleep;
 use crate::processor::Picks;
 use crate::schedule::Schedule;
 use crate::stop::Stop;
@@ -116,11 +115,13 @@ impl Schedule {
         let actor = self.actors.get_mut(running)?;
         actor.condition = Condition::Ended;
         let task = actor.id;
+        let group = actor.group;
+        self.gives_back(running, group);
         self.processors.get_mut(cpu.index())?.loses_task();
         Some(Step::Done(Deed::End { cpu, task }))
     }
 
-    /// The running task falls asleep, and has gone through the phase that says so.
+    /// The running task falls asleep, and has gone through the phase that says so. By which deed it does is seen to by `ClosedLoop`.
     fn falls_asleep(&mut self, cpu: CpuId, running: usize, condition: Condition) -> Option<Step> {
         let actor = self.actors.get_mut(running)?;
         actor.at = actor.at.saturating_add(1);
@@ -130,10 +131,7 @@ impl Schedule {
             self.sleeps_until(running, moment);
         }
         self.processors.get_mut(cpu.index())?.loses_task();
-        Some(Step::Done(match self.plan.fall_asleep {
-            FallAsleep::Sleep => Deed::Sleep { cpu, task },
-            FallAsleep::Doze => Deed::Doze { cpu, task },
-        }))
+        Some(Step::Done(Deed::Sleep { cpu, task }))
     }
 
     /// The running task is suspended, unless a resume of its group has been kept.
@@ -143,7 +141,7 @@ impl Schedule {
         if resumes.take() {
             return self.pass(running);
         }
-        resumes.suspends(running);
+        resumes.suspended.adds(running);
         self.falls_asleep(cpu, running, Condition::Suspended)
     }
 
@@ -156,7 +154,7 @@ impl Schedule {
         if let Some(deed) = self.charge(home.index(), now) {
             return Some(Step::Done(deed));
         }
-        self.resumes.get_mut(group)?.resumes(resumed);
+        self.resumes.get_mut(group)?.suspended.loses_first(resumed);
         self.actors.get_mut(resumed)?.condition = Condition::Runnable;
         let _ = self.pass(running);
         Some(Step::Done(Deed::Wake {
@@ -168,11 +166,18 @@ impl Schedule {
 
     /// The suspended task of least number of a group: its place, its number and its home.
     fn suspended_of(&self, group: usize) -> Option<(usize, TaskId, CpuId)> {
-        let first = self.resumes.get(group)?.first()?;
-        for place in first..self.actors.len() {
+        let first = self.resumes.get(group)?.suspended.first()?;
+        let place = self.first_of(group, Condition::Suspended, first)?;
+        let actor = self.actors.get(place)?;
+        Some((place, actor.id, actor.home))
+    }
+
+    /// The place of the first task of a group, from a place on, that is in a condition.
+    pub fn first_of(&self, group: usize, condition: Condition, from: usize) -> Option<usize> {
+        for place in from..self.actors.len() {
             let actor = self.actors.get(place)?;
-            if actor.group == group && actor.condition == Condition::Suspended {
-                return Some((place, actor.id, actor.home));
+            if actor.group == group && actor.condition == condition {
+                return Some(place);
             }
         }
         None

@@ -3,6 +3,7 @@
 ghost use Rattle.std.specs.Prelude.{◌≤◌};
 
 use crate::actor::{Actor, Condition};
+use crate::arrivals::Comers;
 use crate::opening::{actors_of, processors_of};
 use crate::plan::{Plan, Preempt};
 use crate::processor::{NEVER, Picks, Processor};
@@ -21,9 +22,16 @@ pub(crate) struct Schedule {
     pub processors: Vec<Processor>,
     /// The suspended tasks and the kept resumes of each group.
     pub resumes: Vec<Resumes>,
+    /// The arrivals and the free numbers of each group.
+    pub comers: Vec<Comers>,
     /// The least moment until which a task sleeps, and the place of the first such task.
     pub wakes_at: u64,
     pub wakes: usize,
+    /// How many tasks sleep until a moment.
+    pub sleepers: usize,
+    /// The least moment at which a task that arrives begins, and the first group of which one does then.
+    pub arrives_at: u64,
+    pub arrives: usize,
 }
 
 impl Schedule {
@@ -32,24 +40,42 @@ impl Schedule {
         let actors = actors_of(alloc, setup, &plan)?;
         let processors = processors_of(alloc, setup, plan.tick)?;
         let mut resumes = Vec::with_capacity(alloc, plan.groups.len())?;
-        for _group in 0..plan.groups.len() {
+        let mut comers = Vec::with_capacity(alloc, plan.groups.len())?;
+        for (place, group) in plan.groups.iter().enumerate() {
             resumes.push(Resumes::at_start())?;
+            comers.push(Comers::at_start(group, place, plan.seed))?;
         }
         let mut schedule = Schedule {
             plan,
             actors,
             processors,
             resumes,
+            comers,
             wakes_at: NEVER,
             wakes: 0,
+            sleepers: 0,
+            arrives_at: NEVER,
+            arrives: 0,
         };
+        schedule.count_sleepers();
         schedule.find_sleeper();
+        schedule.find_arrival();
         Ok(schedule)
     }
 
     /// What the machine is to do.
     pub fn plan(&self) -> &Plan {
         &self.plan
+    }
+
+    /// The moment at which the task of a number arrived, or at which it begins where none arrives.
+    pub fn arrived(&self, task: TaskId) -> Option<u64> {
+        Some(self.actors.get(task.index())?.arrived)
+    }
+
+    /// How many tasks of a group are suspended.
+    pub fn suspended(&self, group: usize) -> Option<usize> {
+        Some(self.resumes.get(group)?.suspended.count())
     }
 
     /// Up to which moment time has been charged on a CPU.
@@ -63,7 +89,7 @@ impl Schedule {
         ensures clock { now ≤ result.0 }
     {
         let (place, moment) = self.first_processor();
-        let first = moment.min(self.wakes_at);
+        let first = moment.min(self.wakes_at).min(self.arrives_at);
         if first >= self.plan.lasts {
             let now = now.max(self.plan.lasts);
             return (now, self.last_charge(now));
@@ -71,6 +97,9 @@ impl Schedule {
         let now = now.max(first);
         if self.wakes_at <= now {
             return (now, self.wake_up(now));
+        }
+        if self.arrives_at <= now {
+            return (now, self.begin(now).map(Some).ok_or(Stop::OtherSetup));
         }
         let deed = self.turn(machine, place, now);
         if let Ok(None) = deed {
@@ -120,6 +149,7 @@ impl Schedule {
         let actor = self.actors.get_mut(self.wakes).ok_or(Stop::OtherSetup)?;
         actor.condition = Condition::Runnable;
         let task = actor.id;
+        self.sleepers = self.sleepers.saturating_sub(1);
         self.find_sleeper();
         Ok(Some(Deed::Wake {
             cpu: home,
@@ -128,9 +158,22 @@ impl Schedule {
         }))
     }
 
+    /// Counts the tasks that sleep until a moment.
+    fn count_sleepers(&mut self) {
+        self.sleepers = 0;
+        for actor in self.actors.iter() {
+            if let Condition::Until(_) = actor.condition {
+                self.sleepers = self.sleepers.saturating_add(1);
+            }
+        }
+    }
+
     /// Looks for the first of the tasks that sleep until the least moment.
     fn find_sleeper(&mut self) {
         self.wakes_at = NEVER;
+        if self.sleepers == 0 {
+            return;
+        }
         for (place, actor) in self.actors.iter().enumerate() {
             if let Condition::Until(moment) = actor.condition {
                 if moment < self.wakes_at {
@@ -143,6 +186,7 @@ impl Schedule {
 
     /// A task sleeps until a moment.
     pub fn sleeps_until(&mut self, place: usize, moment: u64) {
+        self.sleepers = self.sleepers.saturating_add(1);
         let is_first = moment == self.wakes_at && place < self.wakes;
         if moment < self.wakes_at || is_first {
             self.wakes_at = moment;
@@ -280,10 +324,10 @@ impl Schedule {
     }
 }
 
-/// Whether a deed that a phase is has been done.
+/// Whether a deed that a phase or an arrival is has been done.
 fn is_of_phase(answer: Answer) -> bool {
     matches!(
         answer,
-        Answer::Slept(_) | Answer::Yielded | Answer::Reniced | Answer::Ended
+        Answer::Slept(_) | Answer::Yielded | Answer::Reniced | Answer::Ended | Answer::Begun
     )
 }

@@ -76,6 +76,7 @@ fn key_of(wrong: &Wrong) -> Option<&str> {
         Wrong::NoTask { .. } => Some(Key::Resume.name()),
         Wrong::SameName(_) => Some(Key::Name.name()),
         Wrong::NoTime => Some(Key::Phases.name()),
+        Wrong::NoEnd => Some(Key::Phases.name()),
         _ => None,
     }
 }

@@ -2,6 +2,7 @@
 //! format.
 #![tactic(auto)]
 
+mod arrivals;
 mod fault_places;
 mod keys;
 mod lengths;

@@ -46,6 +46,10 @@ pub enum Key {
     Task,
     Name,
     Count,
+    /// How many tasks arrive; `Count` is how many there are.
+    Arriving,
+    Every,
+    AtOnce,
     Home,
     Nice,
     Slice,
@@ -73,7 +77,9 @@ impl Key {
             Key::FallAsleep => "sleep",
             Key::Task => "task",
             Key::Name => "name",
-            Key::Count => "count",
+            Key::Count | Key::Arriving => "count",
+            Key::Every => "every",
+            Key::AtOnce => "at_once",
             Key::Home => "home",
             Key::Nice => "nice",
             Key::Slice => "slice",
@@ -101,16 +107,16 @@ impl Key {
             Key::FallAsleep => "\"sleep\" or \"doze\"",
             Key::Task => "tables, as [[task]]",
             Key::Name => "a text of 1 to 64 letters, digits, - and _, and not - alone",
-            Key::Count => "a number from 1 to 1024",
+            Key::Count | Key::AtOnce => "a number from 1 to 1024",
             Key::Home => "the number of a CPU of the machine",
             Key::Nice => "a number from -20 to 19",
             Key::Slice => "a length of time from 100us to 100ms",
             Key::Phases => "a list of 1 to 1000 phases",
-            Key::Run | Key::Sleep => {
+            Key::Run | Key::Sleep | Key::Every => {
                 "a length of time, as \"3ms\", or a range, as \"2ms..5ms\", of 1ns to 1000000s"
             }
             Key::Resume => "the name of a task",
-            Key::Loop => "a number from 1 to 1000000000",
+            Key::Loop | Key::Arriving => "a number from 1 to 1000000000",
         }
     }
 }
@@ -151,6 +157,8 @@ pub enum Wrong {
     TooDeep,
     /// A loop, or the whole, has no run, sleep, timer or end in it.
     NoTime,
+    /// Tasks arrive that never end.
+    NoEnd,
     /// There are more tasks than `TaskId::COUNT`.
     TooMany,
 }
@@ -204,6 +212,7 @@ impl fmt::Display for Wrong {
             Wrong::NoTime => f.write_str(
                 "a list of phases without run, sleep, timer or end takes no time",
             ),
+            Wrong::NoEnd => f.write_str("no phase is the end of the tasks that arrive"),
             Wrong::TooMany => f.write_str("more than 1024 tasks"),
         }
     }

@@ -145,7 +145,8 @@ fn table_phase(
     Ok(Phase::Nice(nice_of(table, place)?))
 }
 
-fn span_of(value: &Value, place: Place, key: Key) -> Result<Span, PhaseFault> {
+/// The span that a value is.
+pub(crate) fn span_of(value: &Value, place: Place, key: Key) -> Result<Span, PhaseFault> {
     match value.as_str() {
         Some(text) => span(text).ok_or(place.fault(Wrong::Bad(key))),
         None => Err(place.fault(Wrong::Bad(key))),

@@ -1,5 +1,6 @@
 //! The tasks of a workload of phases.
 
+use crate::arrivals::{has_end_if_arriving, numbers_of};
 use crate::keys::{known_alone, length_or, list, number_or, text};
 use crate::phase_fault::{Key, PhaseFault, Place, Wrong};
 use crate::phases::phases;
@@ -60,6 +61,7 @@ fn named_groups(alloc: Global, members: &[Value]) -> Result<Vec<Group>, PhaseFau
         groups.push(Group {
             name: String::from_str(alloc, name)?,
             count: 1,
+            arrivals: None,
             home: None,
             nice: Nice::default(),
             slice: Slice::default(),
@@ -107,6 +109,8 @@ fn group_of(
         &[
             Key::Name,
             Key::Count,
+            Key::Every,
+            Key::AtOnce,
             Key::Home,
             Key::Nice,
             Key::Slice,
@@ -114,18 +118,21 @@ fn group_of(
             Key::Phases,
         ],
     )?;
-    let count = number_or(table, place, Key::Count, (1, TaskId::COUNT as u64), 1)?;
+    let (count, arrivals) = numbers_of(table, place)?;
     let name = String::from_str(alloc, text(table, place, Key::Name)?)?;
     let members = list(table, place, Key::Phases)?;
-    Ok(Group {
+    let group = Group {
         name,
-        count: count as usize,
+        count,
+        arrivals,
         home: home_of(table, place, cpus)?,
         nice: nice_of(table, place)?,
         slice: slice_of(table, place)?,
         begins: length_or(table, place, Key::Begins, 0, "0")?,
         phases: phases(alloc, members, task, named)?,
-    })
+    };
+    has_end_if_arriving(arrivals, &group.phases, place)?;
+    Ok(group)
 }
 
 fn home_of(table: &Table, place: Place, cpus: usize) -> Result<Option<usize>, PhaseFault> {

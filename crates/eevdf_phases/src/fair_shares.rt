@@ -119,8 +119,21 @@ impl FairShares {
         }
     }
 
-    /// The hundredths of a per cent of so many nanoseconds that a task was given, rounded down.
-    pub fn hundredths(&self, task: usize, lasts: u64) -> u64 {
+    /// The hundredths of a per cent of so many nanoseconds that so many tasks from a first one on were given, rounded down.
+    pub fn hundredths(&self, first: usize, tasks: usize, lasts: u64) -> u64 {
+        let mut had = 0u128;
+        for number in 0..tasks {
+            had = had.saturating_add(self.had_by(first.saturating_add(number)));
+        }
+        let hundredths = had
+            .saturating_mul(10_000)
+            .checked_div((lasts as u128).saturating_mul(PARTS))
+            .unwrap_or(0);
+        u64::try_from(hundredths).unwrap_or(u64::MAX)
+    }
+
+    /// What a task was given up to now, in parts.
+    fn had_by(&self, task: usize) -> u128 {
         let Some(share) = self.tasks.get(task) else {
             return 0;
         };
@@ -128,10 +141,6 @@ impl FairShares {
             Some(given) => share.has_since(given),
             None => 0,
         };
-        let had = share.had.saturating_add(since).saturating_mul(10_000);
-        let hundredths = had
-            .checked_div((lasts as u128).saturating_mul(PARTS))
-            .unwrap_or(0);
-        u64::try_from(hundredths).unwrap_or(u64::MAX)
+        share.had.saturating_add(since)
     }
 }

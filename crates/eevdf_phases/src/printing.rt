@@ -4,6 +4,7 @@ use crate::ending::Ending;
 use crate::figure_text::print_figures;
 use crate::figures::AllFigures;
 use crate::names::Names;
+use eevdf_clocks::named_task;
 use eevdf_closed_loop::ClosedLoop;
 use eevdf_ops::{Answer, Deed, Line};
 use eevdf_queue::TaskId;
@@ -36,9 +37,9 @@ pub(crate) fn print_stats<W: Write>(
         let Some(line) = machine.step() else {
             break;
         };
-        figures.count(&line, moment_of(machine, &line));
+        figures.count(machine, &line);
     }
-    print_figures(out, names, figures, machine.now)?;
+    print_figures(out, names, machine.plan(), figures, machine.now)?;
     Ok(Ending::of(machine))
 }
 
@@ -66,17 +67,7 @@ pub(crate) fn concerned<'a>(names: &'a Names, line: &Line) -> &'a str {
 /// The task that a deed concerns, with its answer.
 fn task_of(deed: Deed, answer: Answer) -> Option<TaskId> {
     match answer {
-        Answer::Charged { task, .. } | Answer::Picked(task) | Answer::Pulled(task) => {
-            return Some(task);
-        }
-        _ => {}
-    }
-    match deed {
-        Deed::Sleep { task, .. }
-        | Deed::Doze { task, .. }
-        | Deed::Wake { task, .. }
-        | Deed::Renice { task, .. }
-        | Deed::End { task, .. } => Some(task),
-        _ => None,
+        Answer::Charged { task, .. } | Answer::Picked(task) | Answer::Pulled(task) => Some(task),
+        _ => named_task(deed),
     }
 }

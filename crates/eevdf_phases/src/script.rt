@@ -1,12 +1,16 @@
 //! The script that a machine does, as a workload.
 
+ghost use Rattle.std.specs.Prelude.{◌≡◌};
+ghost use Rattle.eevdf_phases.specs.Told as told;
+
 use crate::ending::Ending;
 use crate::names::Names;
 use crate::printing::{concerned, moment_of};
-use eevdf_bench::{Version, Workload};
+use eevdf_bench::Workload;
 use eevdf_closed_loop::{ClosedLoop, FallAsleep};
 use eevdf_ops::{Line, Setup};
 use eevdf_queue::TaskId;
+use eevdf_workload::Version;
 use std::alloc::Global;
 use std::io;
 use std::io::Write;
@@ -33,7 +37,9 @@ pub(crate) fn print_script<W: Write>(
 }
 
 /// The first version of workloads that knows the deeds of a machine whose tasks fall asleep so.
-fn version_with(fall_asleep: FallAsleep) -> Version {
+fn version_with(fall_asleep: FallAsleep) -> Version
+    ensures { result ≡ told.version_with fall_asleep }
+{
     match fall_asleep {
         FallAsleep::Sleep => Version::Three,
         FallAsleep::Doze => Version::Four,

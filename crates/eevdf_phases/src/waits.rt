@@ -1,5 +1,7 @@
 //! How long a task waits.
 
+ghost use Rattle.std.specs.Prelude.{◌≡◌, ◌≤◌, ◌<◌, ◌+◌, ◌/◌, ◌^◌, max};
+
 use std::alloc::{AllocError, Global};
 
 /// In each doubling so many lengths are told apart.
@@ -39,7 +41,11 @@ impl Waits {
     }
 
     /// One more has come to its end.
-    pub fn add(&mut self, wait: u64) {
+    pub fn add(&mut self, wait: u64)
+        ensures number { self.old.number + 1 < 2 ^ 64 → self.new.number ≡ self.old.number + 1 }
+        ensures sum { self.old.sum + wait < 2 ^ 64 → self.new.sum ≡ self.old.sum + wait }
+        ensures longest { self.new.longest ≡ max self.old.longest wait }
+    {
         self.number = self.number.saturating_add(1);
         self.sum = self.sum.saturating_add(wait);
         self.longest = self.longest.max(wait);
@@ -49,12 +55,16 @@ impl Waits {
     }
 
     /// Their mean, rounded down.
-    pub fn mean(&self) -> u64 {
+    pub fn mean(&self) -> u64
+        ensures { 1 ≤ self.now.number → result ≡ self.now.sum / self.now.number }
+    {
         self.sum.checked_div(self.number).unwrap_or(0)
     }
 
     /// What 99 of 100 don't pass: the last length of the step in which the last of them is, or the longest, where that is less.
-    pub fn most_of_99(&self) -> u64 {
+    pub fn most_of_99(&self) -> u64
+        ensures { result ≤ self.now.longest }
+    {
         let over = self.number / 100;
         let mut left = self.number.saturating_sub(over);
         for (step, count) in self.by_length.iter().enumerate() {
