@@ -1,17 +1,18 @@
 //! What the program says of itself.
 
 /// What is printed where the words aren't known.
-pub(crate) const USAGE: &[u8] = b"usage: eevdf_phases [--run|--stats] [FILE]\n";
+pub(crate) const USAGE: &[u8] = b"usage: eevdf_phases [--from trace] [--run|--stats] [FILE]\n";
 
 /// What `--help` prints.
 pub(crate) const HELP: &[u8] = b"\
 eevdf_phases reads what tasks do, phase by phase, and prints the script that the scheduler does with them, for `eevdf solo`.
 
-usage: eevdf_phases [--run|--stats] [FILE]
+usage: eevdf_phases [--from trace] [--run|--stats] [FILE]
 
+  --from trace reads a trace of a real machine, as `perf sched script` or `trace-cmd report` print it, instead of phases
   --run        prints each deed with its answer and its moment instead
   --stats      prints for how long each task ran and waited instead
-  FILE         the workload of phases; without it, or where it is -, standard input is read
+  FILE         the workload of phases, or the trace; without it, or where it is -, standard input is read
   --help, -h   prints this
   --version    prints the version
 

@@ -1,6 +1,6 @@
-//! `eevdf_phases [--run|--stats] [FILE]` reads a workload of phases from a file or from standard input and prints the script that the
-//! scheduler does with it, as a workload for `eevdf solo`; with `--run` the deeds with their answers, and with `--stats` what each task
-//! came to.
+//! `eevdf_phases [--from trace] [--run|--stats] [FILE]` reads a workload of phases from a file or from standard input and prints the script
+//! that the scheduler does with it, as a workload for `eevdf solo`; with `--run` the deeds with their answers, and with `--stats` what each
+//! task came to. With `--from trace` it is the trace of a real machine that is read, in which each task's runs and sleeps are its phases.
 #![tactic(auto)]
 
 mod ending;
@@ -12,13 +12,15 @@ mod names;
 mod playing;
 mod printing;
 mod refusing;
+mod requests;
+mod row;
 mod script;
 mod waits;
 mod words;
 
 use crate::help::{HELP, USAGE};
 use crate::playing::play_text;
-use crate::words::{Output, output_of, unknown_word};
+use crate::words::{Asked, FROM, asked_of, unknown_word};
 use eevdf_bench::{
     BenchFault, NO_MEMORY, ProgramTexts, Reasoned, Watched, WordFault, fault_text, named_file,
     read_input, status_of, take_file, tell, tell_reason,
@@ -48,8 +50,8 @@ fn answer<R: Env + AllocGlobal + Files + Input + Print>(
     alloc: Global,
 ) -> Result<u8, u8> {
     let mut words = TEXTS.words(rt, errors, errors, alloc)?;
-    let file = take_file(&mut words, 1, &[]);
-    let Some(output) = output_of(&words) else {
+    let file = take_file(&mut words, 1, &[FROM]);
+    let Some(asked) = asked_of(&words) else {
         let unknown = unknown_word(alloc, &words, file.is_some()).ok();
         return Err(TEXTS.refuse(errors, errors, WordFault::Words, unknown));
     };
@@ -57,24 +59,24 @@ fn answer<R: Env + AllocGlobal + Files + Input + Print>(
     Ok(match name {
         Some(path) => {
             let opened = TEXTS.open(rt, errors, errors, alloc, path)?;
-            run(rt, errors, alloc, output, name, opened)
+            run(rt, errors, alloc, asked, name, opened)
         }
-        None => run(rt, errors, alloc, output, name, rt.reader()),
+        None => run(rt, errors, alloc, asked, name, rt.reader()),
     })
 }
 
-/// Reads the workload of phases from a reader and plays it, and gives the exit status.
+/// Reads what is asked for from a reader and plays it, and gives the exit status.
 fn run<W: Read + Drop>(
     rt: &impl Print,
     errors: &impl Print,
     alloc: Global,
-    output: Output,
+    asked: Asked,
     file: Option<&str>,
     workload: W,
 ) -> u8 {
     let mut reader = Watched::new(Reasoned::new(workload));
     match read_input(alloc, &mut reader) {
-        Ok(bytes) => play_text(rt, errors, alloc, file, &bytes, output),
+        Ok(bytes) => play_text(rt, errors, alloc, file, &bytes, asked),
         Err(fault) => {
             let status = not_read(errors, alloc, &fault);
             if fault == BenchFault::Read {

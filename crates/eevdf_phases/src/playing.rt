@@ -1,40 +1,49 @@
-//! Reading a workload of phases, playing it and printing what comes of it.
+//! Reading a workload of phases or a trace, playing it and printing what comes of it.
 
 use crate::ending::Ending;
 use crate::figures::AllFigures;
 use crate::names::Names;
 use crate::printing::{print_answers, print_stats};
-use crate::refusing::refuse;
+use crate::refusing::{refuse, refuse_trace};
 use crate::script::print_script;
-use crate::words::Output;
+use crate::words::{Asked, Output, Source};
 use eevdf_bench::{NO_MEMORY, NO_WRITE, Piped, Workload, print};
 use eevdf_closed_loop::{ClosedLoop, OpenFault, Plan, setup_of};
 use eevdf_ops::Setup;
 use eevdf_phase_text::{MOST_BYTES, read_phases};
+use eevdf_trace::{MOST_BYTES as MOST_TRACE_BYTES, read_trace};
 use std::alloc::Global;
 use std::io;
 use std::io::{BufWriter, ErrorKind, Write};
 
-// what is read is no longer than a workload of phases
+// what is read is no longer than a workload of phases, or a trace
 const _: () = prove!(MOST_BYTES == Workload::MOST_BYTES);
 
-/// Plays the workload of phases that these bytes are, which may be those of a file, and gives the exit status.
+const _: () = prove!(MOST_TRACE_BYTES == Workload::MOST_BYTES);
+
+/// Plays the workload of phases or the trace that these bytes are, which may be those of a file, and gives the exit status.
 pub(crate) fn play_text<R: Print>(
     rt: &R,
     errors: &impl Print,
     alloc: Global,
     file: Option<&str>,
     bytes: &[u8],
-    output: Output,
+    asked: Asked,
 ) -> u8 {
-    match read_phases(alloc, bytes) {
-        Ok(plan) => play(rt, errors, alloc, plan, output),
-        Err(fault) => refuse(errors, alloc, file, bytes, &fault),
+    match asked.source {
+        Source::Phases => match read_phases(alloc, bytes) {
+            Ok(plan) => play(rt, errors, alloc, plan, asked),
+            Err(fault) => refuse(errors, alloc, file, bytes, &fault),
+        },
+        Source::Trace => match read_trace(alloc, bytes) {
+            Ok(plan) => play(rt, errors, alloc, plan, asked),
+            Err(fault) => refuse_trace(errors, alloc, file, bytes, &fault),
+        },
     }
 }
 
 /// Plays a plan and prints what comes of it, and gives the status.
-fn play<R: Print>(rt: &R, errors: &impl Print, alloc: Global, plan: Plan, output: Output) -> u8 {
+fn play<R: Print>(rt: &R, errors: &impl Print, alloc: Global, plan: Plan, asked: Asked) -> u8 {
     let Ok(names) = Names::of(alloc, &plan) else {
         return print(errors, NO_MEMORY, 3);
     };
@@ -43,7 +52,7 @@ fn play<R: Print>(rt: &R, errors: &impl Print, alloc: Global, plan: Plan, output
         Err(fault) => return not_set_up(errors, fault),
     };
     match ClosedLoop::open(alloc, &setup, plan) {
-        Ok(mut machine) => print_all(rt, errors, alloc, &setup, &names, &mut machine, output),
+        Ok(mut machine) => print_all(rt, errors, alloc, &setup, &names, &mut machine, asked),
         Err(_) => print(errors, NO_MEMORY, 3),
     }
 }
@@ -64,12 +73,14 @@ fn print_all<R: Print>(
     setup: &Setup,
     names: &Names,
     machine: &mut ClosedLoop,
-    output: Output,
+    asked: Asked,
 ) -> u8 {
     let mut pipe = Piped::new(io::writer(rt));
-    let ended = print_through(&mut pipe, alloc, setup, names, machine, output);
+    let ended = print_through(&mut pipe, alloc, setup, names, machine, asked.output);
     match ended {
-        Ok(ending) => ending.tell(errors),
+        // behind what it did in a trace each task is suspended, and waits for nobody
+        Ok(ending) if asked.source == Source::Trace => ending.tell(errors),
+        Ok(ending) => ending.tell_of(errors, machine),
         Err(ErrorKind::OutOfMemory) => print(errors, NO_MEMORY, 3),
         Err(_) if pipe.is_unread() => 3,
         Err(_) => print(errors, NO_WRITE, 3),
@@ -106,7 +117,7 @@ fn print_output<W: Write>(
         Output::Script => print_script(out, alloc, setup, names, machine),
         Output::Answers => print_answers(out, names, machine),
         Output::Figures => {
-            let mut figures = AllFigures::of(alloc, setup)?;
+            let mut figures = AllFigures::of(alloc, setup, machine.plan())?;
             print_stats(out, names, machine, &mut figures)
         }
     }

@@ -1,8 +1,9 @@
-//! What is said of a workload of phases that is refused.
+//! What is said of a workload of phases or a trace that is refused.
 
 use eevdf_bench::{BenchFault, LoadFault, tell_text};
 use eevdf_explain::{Explanation, Mark, Place, fault_explanation};
 use eevdf_phase_text::{PhaseFault, Wrong, fault_place};
+use eevdf_trace::{TraceFault, Wrong as WrongTrace};
 use std::alloc::Global;
 use std::ops::Range;
 
@@ -35,6 +36,42 @@ fn explanation(
     }
     let place = fault_place(alloc, bytes, fault)?;
     let wrong = &fault.wrong;
+    let explanation = Explanation {
+        mark: Some(mark_of(bytes, place)?),
+        message: format!(in alloc; "{wrong}").ok()?,
+    };
+    explanation.text(alloc, file, bytes).ok()
+}
+
+/// Says why the trace that these bytes are is refused, and where in it, and gives the status.
+pub(crate) fn refuse_trace(
+    errors: &impl Print,
+    alloc: Global,
+    file: Option<&str>,
+    bytes: &[u8],
+    fault: &TraceFault,
+) -> u8 {
+    let _ = println!(errors; "fault: {fault}");
+    if fault.wrong == WrongTrace::Memory {
+        return 3;
+    }
+    tell_text(errors, trace_explanation(alloc, file, bytes, fault));
+    1
+}
+
+/// What is wrong with a trace, and where, in lines. `None` where it has no place, and where there is no memory.
+fn trace_explanation(
+    alloc: Global,
+    file: Option<&str>,
+    bytes: &[u8],
+    fault: &TraceFault,
+) -> Option<String> {
+    let place = fault.place?;
+    let wrong = fault.wrong;
+    let place = Range {
+        start: place.start,
+        end: place.end,
+    };
     let explanation = Explanation {
         mark: Some(mark_of(bytes, place)?),
         message: format!(in alloc; "{wrong}").ok()?,
