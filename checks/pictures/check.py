@@ -23,6 +23,7 @@ from figures import check_json, check_rows, check_table
 from large import check_large
 from model import Timeline
 from pages import check_page, check_whole, picture_in
+from phased import FOLDER, check_moments, script_of
 from pictured import check_picture, check_task_picture, check_unknown
 from plain.fault import Fault
 from plain.made_order import made_order
@@ -48,6 +49,12 @@ HOSTILE_NAMES = ("a</script><script>alert(1)</script>.toml", "<!--.toml", "\"'&l
 # The pictures of docs/, and the workload and words of each.
 PICTURES = {"pull.svg": ("examples/pull.toml", ()), "interleaving.svg": ("examples/interleaving.toml", ("--replay",)),
             "doze.svg": ("examples/doze.toml", ()), "race.svg": ("examples/interleaving.toml", ("--replay", "--race", "--to", "60"))}
+
+# The examples of phases, and the words of the picture of each: what part of a long time it has.
+PICTURES |= {f"phases-{name}.svg": (f"examples/phases/{name}.toml", words) for name, words in {
+    "web-server": (), "build-machine": ("--to", "20000000"), "audio": (), "pool": ("--from", "8000000", "--to", "24000000"),
+    "pipeline": ("--to", "4000000"), "napping-hog": (), "hog-by-sleeps": ("--to", "100000000"), "hog-by-dozes": ("--to", "100000000"),
+}.items()}
 
 
 def check_all(checks, data, script, words=()):
@@ -93,6 +100,17 @@ def check_stored_workloads(checks):
     for path, data, command in stored_workloads("checks/cases/programs/*.toml"):
         if is_well(path) and command == "run":
             checks.attempt(path.name, check_run, checks, data)
+
+
+def check_phases(checks):
+    for path in sorted(FOLDER.glob("*.toml")):
+        checks.attempt(f"the schedule of {path.name}", check_phased, checks, path)
+
+
+def check_phased(checks, path):
+    data = script_of(checks, path)
+    check_moments(data)
+    check_script(checks, data)
 
 
 def check_run(checks, data):
@@ -252,6 +270,19 @@ def check_late_wake(checks):
     expect("the arrow", [(event["ph"], event["tid"], event["ts"]) for event in events if event["ph"] in "sf"], [("s", 0, 5000), ("f", 1, 5000)])
 
 
+def check_late_requests(checks):
+    """How late requests are, and how late they can be, of all of the time and of its end, before which the request of task 1 was later."""
+    cases = ((made.late_requests(), (), [(0, 10000000), (4000000, 10000000)]),
+             (made.late_requests(), ("--from", "11500000"), [(0, 10000000), (3500000, 10000000)]),
+             (made.late_requests(), ("--to", "9999999"), [(0, 0), (0, 0)]),
+             (made.late_yield(), (), [(0, 3000000), (0, 3000000)]))
+    for data, words, wanted in cases:
+        rows = json.loads(checks.written(("--stats", "--json", *words), data))["tasks"]
+        expect(f"how late requests are with {words}", [(row["late_ns"], row["late_bound_ns"]) for row in rows], wanted)
+    for data in (made.late_requests(), made.late_yield()):
+        check_script(checks, data)
+
+
 def check_alone(checks):
     """A task that is alone has all of the time, and its weight gives it all, if that is one nanosecond too."""
     rows = json.loads(checks.written(("--stats", "--json"), made.alone()))["tasks"]
@@ -281,7 +312,7 @@ def check_sleeper(checks):
 
 def check_made(checks):
     for name, check in (("choices", check_choices), ("yields of tasks", check_yields), ("an early arrow", check_late_pull), ("a late wake", check_late_wake),
-                        ("why stretches end", check_ends), ("the edges of a time", check_edges),
+                        ("why stretches end", check_ends), ("the edges of a time", check_edges), ("late requests", check_late_requests),
                         ("a task alone of each level", check_alone), ("30 tasks", check_crowd), ("a task that sleeps", check_sleeper),
                         ("3000 stretches", check_dense)):
         checks.attempt(name, check, checks)
@@ -292,14 +323,19 @@ def check_made(checks):
     checks.attempt(f"{COMPARED} deeds", check_script, checks, made.longest(COMPARED))
 
 
+def picture_of(checks, name):
+    """The picture of docs/images/ of this name, as the program draws it now."""
+    path, words = TOP / PICTURES[name][0], PICTURES[name][1]
+    return checks.written(words, script_of(checks, path) if path.parent == FOLDER else path.read_bytes())
+
+
 def check_stored(checks, name):
-    path, words = PICTURES[name]
-    expect(f"docs/images/{name}", (TOP / "docs/images" / name).read_bytes(), checks.written(words, (TOP / path).read_bytes()))
+    expect(f"docs/images/{name}", (TOP / "docs/images" / name).read_bytes(), picture_of(checks, name))
 
 
 def make_pictures(checks):
-    for name, (path, words) in PICTURES.items():
-        (TOP / "docs/images" / name).write_bytes(checks.written(words, (TOP / path).read_bytes()))
+    for name in PICTURES:
+        (TOP / "docs/images" / name).write_bytes(picture_of(checks, name))
 
 
 def main():
@@ -308,6 +344,7 @@ def main():
         make_pictures(checks)
         return 0
     check_stored_workloads(checks)
+    check_phases(checks)
     check_drawn(checks, int(sys.argv[1]) if sys.argv[1:] else 1)
     check_made(checks)
     check_large(checks)

@@ -6,8 +6,8 @@ import re
 from model import figures_of
 from svg import Wrong, expect
 
-TASK_HEADINGS = ("task", "ran ns", "share", "weight", "greatest lag ns", "least lag ns", "picks", "preempted", "wakes", "mean wake ns",
-                 "p99 wake ns", "greatest wake ns", "from ns", "waited ns", "migrations")
+TASK_HEADINGS = ("task", "ran ns", "share", "weight", "greatest lag ns", "least lag ns", "late ns", "bound ns", "picks", "preempted",
+                 "wakes", "mean wake ns", "p99 wake ns", "greatest wake ns", "from ns", "waited ns", "migrations")
 CPU_HEADINGS = ("cpu", "charged ns", "load", "idle ticks", "idle ns", "pulls in", "pulls out")
 
 
@@ -62,5 +62,7 @@ def check_rows(rows):
         said = {key: value or 0 for key, value in row.items()}
         if max(said["wake_mean_ns"], said["wake_p99_ns"]) > said["wake_greatest_ns"] or said["least_lag_ns"] > said["greatest_lag_ns"]:
             raise Wrong(f"the row {row}")
+        if said["late_ns"] > said["late_bound_ns"]:
+            raise Wrong(f"a request that is later than it can be: {row}")
         if max(said["share_permille"], said["weight_share_permille"]) > 1000:
             raise Wrong(f"the shares of {row}")

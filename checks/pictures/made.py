@@ -46,6 +46,18 @@ def drawn(seed):
     return workload(cpus, tasks, [drawn_deed(dice, cpus, homes) for _ in range(dice.randrange(300))])
 
 
+def late_requests():
+    """Task 0 runs for 10 ms where its slice is 1 ms, while task 1 waits."""
+    tasks = [task_text(0, 0, 1000000, 0, False) for _ in range(2)]
+    return workload(1, tasks, ["0 pick", "0 tick 10000000", "0 pick", "0 tick 1000000", "0 pick", "0 tick 1000000"])
+
+
+def late_yield():
+    """The request of task 0 is longer by a yield, so it isn't late when task 1 has run for 3 ms."""
+    tasks = [task_text(0, 0, 1000000, 0, False) for _ in range(2)]
+    return workload(1, tasks, ["0 pick", "0 tick 500000", "0 yield", "0 pick", "0 tick 3000000"])
+
+
 def empty():
     """A machine on which nobody is runnable and nothing is done."""
     return workload(1, [task_text(0, 0, 3000000, 0, True)], [])

@@ -10,9 +10,11 @@ from pathlib import Path
 
 sys.path.insert(0, str(Path(__file__).resolve().parent.parent / "drawn"))
 
-from plain.machine import queues_at_start, whole
+from lateness import BoundedQueues
+from plain.machine import queues_at_start
 from plain.numbers import weight_of
 from plain.report import text_of
+from plain.times import Clocks
 from turns import is_in, rests_of
 
 
@@ -46,9 +48,10 @@ class TaskFigures:
     fair: Fraction = Fraction(0)
     least_fair: int = 0
     greatest_fair: int = 0
-    lags: list = field(default_factory=list)
-    # the lag with which it comes into the time that is counted, where it is runnable then
-    first_lag: int | None = None
+    # (lag, how late its request is, how late it can be) at each moment
+    states: list = field(default_factory=list)
+    # the ones with which it comes into the time that is counted, where it is runnable then
+    first_state: tuple | None = None
     picks: int = 0
     preempted: int = 0
     # (nanoseconds, when it woke) of each wake that a pick followed
@@ -72,10 +75,6 @@ class CpuFigures:
     pulls_out: int = 0
 
 
-# The deeds that find a task asleep, and their answers then.
-FINDS = {"wake": "woken", "begin": "begun", "set": "set"}
-
-
 def shared(window, begin, end):
     """How much of a time is in a window."""
     return max(0, min(end, window[1]) - max(begin, window[0]))
@@ -94,8 +93,8 @@ class Timeline:
         self.setup = setup
         self.window = window
         self.queues = queues_at_start(setup)
-        self.clocks = [0] * setup.cpus()
-        self.slept = {}
+        self.bounded = BoundedQueues(setup, self.queues)
+        self.clocks = Clocks(setup.cpus())
         self.woken = {}
         self.moments = []
         # (CPU, task, begin, end)
@@ -121,8 +120,8 @@ class Timeline:
             self.do(cpu, deed)
         for task in self.tasks:
             task.end_stay()
-            if task.first_lag is not None:
-                task.lags.append(task.first_lag)
+            if task.first_state is not None:
+                task.states.append(task.first_state)
 
     def end(self):
         return max((moment.end for moment in self.moments), default=0)
@@ -142,42 +141,26 @@ class Timeline:
             self.points[task].append((time, lag))
 
     def count_state(self, cpu, time):
-        """Counts the load of a CPU and the lags there at a time of its clock."""
+        """Counts the load of a CPU, and the lags there and how late requests are, at a time of its clock."""
         begin, end = self.window
         if time > end:
             return
         self.cpus[cpu].load = self.queues[cpu].load()
-        for task in self.queues[cpu].runnable:
-            lag = lag_in_ns(self.queues[cpu], task)
+        for task, late, bound in self.bounded.lateness(cpu):
+            state = (lag_in_ns(self.queues[cpu], task), late, bound)
             if time < begin:
-                self.tasks[task].first_lag = lag
+                self.tasks[task].first_state = state
             else:
-                self.tasks[task].lags.append(lag)
-
-    def begin_of(self, cpu, deed):
-        """A pull isn't before what its source has done, nor a wake before what its sender has; and what finds a task asleep isn't before the
-        task fell asleep or ended."""
-        begin = max(self.clocks[cpu], self.other_of(cpu, deed))
-        if deed[0] in FINDS and deed[1] in self.queues[cpu].asleep:
-            return max(begin, self.slept.get(deed[1], 0))
-        return begin
-
-    def other_of(self, cpu, deed):
-        named = {"pull": 1, "wake": 2}.get(deed[0])
-        return self.clocks[cpu if named is None else deed[named]]
+                self.tasks[task].states.append(state)
 
     def do(self, cpu, deed):
-        begin, other = self.begin_of(cpu, deed), self.other_of(cpu, deed)
         running = self.queues[cpu].running
         before = self.state(cpu)
         self.lags_before.append(dict(before[1]).get(running))
-        answer = whole(self.setup, self.queues, cpu, deed)
-        if answer != FINDS.get(deed[0], answer):
-            begin = max(self.clocks[cpu], other)
-        took = deed[1] if deed[0] == "tick" and answer != "range" else 0
-        moment = Moment(cpu, deed, answer, begin, begin + took, other)
+        answer = self.bounded.do(cpu, deed)
+        begin, end, other = self.clocks.do(cpu, deed, answer)
+        moment = Moment(cpu, deed, answer, begin, end, other)
         self.moments.append(moment)
-        self.clocks[cpu] = moment.end
         self.note_concerned(moment, running)
         self.count(moment, running)
         self.stretch(moment)
@@ -231,10 +214,9 @@ class Timeline:
             self.cpus[moment.deed[1]].pulls_out += is_counted
             self.tasks[int(words[1])].migrations += is_counted
         elif words[0] in ("slept", "ended"):
-            self.slept[moment.deed[1]] = moment.begin
             self.tasks[moment.deed[1]].migrations += is_counted and self.setup.tasks[moment.deed[1]].home != moment.cpu
             if moment.end < self.window[0]:
-                self.tasks[moment.deed[1]].first_lag = None
+                self.tasks[moment.deed[1]].first_state = None
         elif words[0] == "woken":
             self.woken[moment.deed[1]] = moment.begin
 
@@ -337,6 +319,17 @@ def wakes_of(waits):
     }
 
 
+def lags_of(states):
+    """What is said of the lags of a task, and of how late its requests are and can be, cut."""
+    lags, late, bounds = zip(*states) if states else ((), (), ())
+    return {
+        "greatest_lag_ns": max(lags, default=None),
+        "least_lag_ns": min(lags, default=None),
+        "late_ns": int(max(late)) if late else None,
+        "late_bound_ns": max(bounds, default=None),
+    }
+
+
 def figures_of(timeline):
     """The rows of the table, of tasks and of CPUs. The share by weight is the least and the greatest that it may be."""
     rests = rests_of(timeline)
@@ -345,8 +338,7 @@ def figures_of(timeline):
         "ran_ns": task.ran,
         "share_permille": permille(task.ran, task.shared),
         "weight_share_permille": (permille(task.least_fair, task.shared), permille(task.greatest_fair, task.shared)),
-        "greatest_lag_ns": max(task.lags, default=None),
-        "least_lag_ns": min(task.lags, default=None),
+        **lags_of(task.states),
         "picks": task.picks,
         "preempted": task.preempted,
         **wakes_of(task.waits),

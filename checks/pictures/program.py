@@ -16,7 +16,7 @@ class Pictures(Checks):
 
     def __init__(self):
         super().__init__(are_many=True)
-        self.programs = built("eevdf_timeline", "eevdf")
+        self.programs = built("eevdf_timeline", "eevdf", "eevdf_phases")
 
     def attempt(self, name, check, *arguments):
         try:

@@ -3,6 +3,7 @@
 mod counted;
 mod counts;
 mod deeds;
+mod lateness;
 mod rows;
 mod service;
 mod table;

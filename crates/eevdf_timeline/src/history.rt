@@ -1,6 +1,7 @@
 //! The history that is drawn.
 
-ghost use Rattle.std.specs.Prelude.{map, IfOk};
+ghost use Rattle.std.specs.Prelude.{◌≡◌, map, IfOk};
+ghost use Rattle.eevdf_clocks.specs.Times.{moments_of};
 ghost use Rattle.eevdf_timeline.specs.Histories.{IsHistoryOf, IsOutcomeOf};
 
 use crate::moments::{Moment, timed};
@@ -14,7 +15,7 @@ use std::alloc::Global;
 use std::sync::Wait;
 use std::thread::Threads;
 
-/// The lines of a workload's script, of its order or of its programs run by threads, each with its time: the deeds with the answers
+/// The lines of a workload's script, of its order or of its programs run by threads, each with its time by the clocks (`eevdf_clocks`): the deeds with the answers
 /// of the one thread that does them one after the other. A workload that lacks the part is refused as by `eevdf`, an order
 /// with its fault; the only other refusals are `Memory`, and of a run that a thread was refused. The deeds of a script that were refused are
 /// left in `refused`.
@@ -25,12 +26,13 @@ pub fn history_of<T: Threads + Wait + Sync>(
     source: Kind,
     refused: &mut RefusedDeeds,
 ) -> Result<Vec<Moment>, BenchFault>
-    ensures { IfOk result (λ moments.
+    ensures lines { IfOk result (λ moments.
         IsHistoryOf source workload.now (map (λ m. m.line) moments.items)) }
+    ensures times { IfOk result (λ moments.
+        moments.items ≡ moments_of (map (λ m. m.line) moments.items)) }
 {
     let outcome = outcome_of(rt, alloc, workload, source)?;
-    let setup = workload.setup();
-    let moments = timed(alloc, setup.cpus(), setup.tasks(), outcome.history())?;
+    let moments = timed(alloc, outcome.history())?;
     note_refused(alloc, source, outcome.history(), refused);
     Ok(moments)
 }

@@ -1,8 +1,10 @@
 //! What is counted of one task, and of one CPU.
 
+use crate::figures::lateness::Lateness;
 use crate::figures::service::Service;
 use crate::figures::virtual_times::VirtualTimes;
 use crate::figures::waits::Waits;
+use eevdf_fair_queue::Bounds;
 use eevdf_ops::CpuId;
 use eevdf_queue::{Entry, TaskId};
 use std::alloc::{AllocError, Global};
@@ -19,6 +21,8 @@ pub struct TaskCounts {
     pub fair: u64,
     /// Its greatest and its least lag after a deed on its CPU while it was runnable, in nanoseconds.
     pub lags: Option<(i64, i64)>,
+    /// How late its requests were at most, and could be, at these moments.
+    pub lateness: Option<Lateness>,
     pub picks: u64,
     /// How often another task was picked while it ran.
     pub preempted: u64,
@@ -55,6 +59,8 @@ pub struct CpuCounts {
     pub service: Service,
     pub running: Option<TaskId>,
     pub times: VirtualTimes,
+    /// Those of its queue.
+    pub bounds: Bounds,
 }
 
 impl TaskCounts {
@@ -65,6 +71,7 @@ impl TaskCounts {
             shared: 0,
             fair: 0,
             lags: None,
+            lateness: None,
             picks: 0,
             preempted: 0,
             waits: Waits::new(alloc),
@@ -78,6 +85,13 @@ impl TaskCounts {
         self.lags = Some(match self.lags {
             None => (greatest, least),
             Some((above, below)) => (above.max(greatest), below.min(least)),
+        });
+    }
+
+    pub(crate) fn add_lateness(&mut self, lateness: Lateness) {
+        self.lateness = Some(match self.lateness {
+            None => lateness,
+            Some(greatest) => greatest.or_greater(lateness),
         });
     }
 
@@ -111,6 +125,7 @@ impl CpuCounts {
             service: Service::NONE,
             running: None,
             times: VirtualTimes::new(alloc),
+            bounds: Bounds::fresh(),
         }
     }
 }

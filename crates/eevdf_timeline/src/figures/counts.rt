@@ -2,11 +2,13 @@
 
 use crate::again::Observer;
 use crate::figures::counted::{CpuCounts, Since, TaskCounts};
+use crate::figures::lateness::Lateness;
 use crate::figures::virtual_times::lag_in_ns;
 use crate::moments::{Moment, charged_task, is_rebase, moved_task};
 use crate::scale::Scale;
 use crate::stretches::Rest;
-use eevdf_ops::{CpuId, Deed, Setup, Solo};
+use eevdf_fair_queue::Mark;
+use eevdf_ops::{Answer, CpuId, Deed, Setup, Solo};
 use eevdf_queue::{Entry, TaskId};
 use eevdf_weight::weight;
 use std::alloc::{AllocError, Global};
@@ -20,6 +22,8 @@ pub struct Counts {
     pub scale: Scale,
     // whether the deed that is done is before that time
     is_before: bool,
+    /// Where the task stands that the deed touches, or its queue, before it.
+    pub mark: Option<Mark>,
 }
 
 impl Counts {
@@ -30,6 +34,7 @@ impl Counts {
             cpus: Vec::new(alloc),
             scale,
             is_before: false,
+            mark: None,
         };
         for _cpu in 0..setup.cpus() {
             counts.cpus.push(CpuCounts::new(alloc))?;
@@ -52,12 +57,20 @@ impl Counts {
         }
     }
 
-    /// Ends what was so of the task that a deed charges or moves, and at a rebase of all tasks of its CPU.
+    /// The task that stays in its queue with another entry: a tick charges it, or it yields.
+    fn changed_task(&self, moment: &Moment) -> Option<TaskId> {
+        match moment.line.answer {
+            Answer::Yielded => self.running(moment.line.deed.cpu()),
+            _ => charged_task(moment),
+        }
+    }
+
+    /// Ends what was so of the task that a deed changes or moves, and at a rebase of all tasks of its CPU.
     fn end_states(&mut self, moment: &Moment) {
         if is_rebase(moment) {
             self.note_lags(moment.line.deed.cpu());
         }
-        if let Some(task) = charged_task(moment) {
+        if let Some(task) = self.changed_task(moment) {
             self.note_lag(task);
         }
         if let Some(task) = moved_task(moment) {
@@ -71,11 +84,12 @@ impl Counts {
         if is_rebase(moment) {
             self.renew_all(solo, cpu, place);
         }
-        if let Some(task) = charged_task(moment) {
+        if let Some(task) = self.changed_task(moment) {
             self.renew(solo, task, cpu, place);
         }
         if let Some(task) = moved_task(moment) {
             self.join(solo, task, cpu, place);
+            self.settle_bounds(moment, task);
         }
     }
 
@@ -112,12 +126,12 @@ impl Counts {
         counts.times.note(place, virtual_time)
     }
 
-    fn since(&self, task: TaskId) -> Option<Since> {
+    pub(crate) fn since(&self, task: TaskId) -> Option<Since> {
         self.tasks.get(task.index())?.since
     }
 
-    /// Takes the lags that a task has had since its entry is as it is into its greatest and least one, unless all of them are before the
-    /// time that is counted.
+    /// Takes the lags that a task has had since its entry is as it is into its greatest and least one, and how late its request was,
+    /// unless all of that is before the time that is counted.
     fn note_lag(&mut self, task: TaskId) {
         if self.is_before {
             return;
@@ -131,10 +145,12 @@ impl Counts {
         let greatest = counts.times.greatest_since(since.place);
         let least = counts.times.least_since(since.place);
         if let (Some(greatest), Some(least)) = (greatest, least) {
+            let lateness = Lateness::of(greatest, since.entry.d, counts.bounds);
             let greatest = lag_in_ns(greatest, &since.entry);
             let least = lag_in_ns(least, &since.entry);
             if let Some(counts) = self.tasks.get_mut(task.index()) {
                 counts.add_lags(greatest, least);
+                counts.add_lateness(lateness);
             }
         }
     }
@@ -208,7 +224,7 @@ impl Counts {
         }
     }
 
-    /// Gives a task the entry that it has after a tick or a rebase.
+    /// Gives a task the entry that it has after a tick, a yield or a rebase.
     fn renew(&mut self, solo: &Solo, task: TaskId, cpu: CpuId, place: usize) {
         let Some(since) = self.since(task) else {
             return;
@@ -247,6 +263,7 @@ impl Observer for Counts {
         for cpu in 0..self.cpus.len().min(CpuId::COUNT) {
             self.note_time(solo, CpuId::numbered(cpu), 0, 0)?;
         }
+        self.measure_bounds(solo);
         for place in 0..self.tasks.len() {
             if let Some(task) = TaskId::new(place as u64) {
                 self.begin_task(solo, task);
@@ -255,9 +272,10 @@ impl Observer for Counts {
         Ok(())
     }
 
-    fn before_deed(&mut self, _solo: &Solo, moment: &Moment) -> Result<(), AllocError> {
+    fn before_deed(&mut self, solo: &Solo, moment: &Moment) -> Result<(), AllocError> {
         self.is_before = moment.end < self.scale.from;
         self.end_states(moment);
+        self.keep_bounds(solo, moment);
         Ok(())
     }
 

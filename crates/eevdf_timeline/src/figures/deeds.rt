@@ -86,7 +86,7 @@ impl Counts {
         }
     }
 
-    fn running(&self, cpu: CpuId) -> Option<TaskId> {
+    pub(crate) fn running(&self, cpu: CpuId) -> Option<TaskId> {
         self.cpus.get(cpu.index())?.running
     }
 

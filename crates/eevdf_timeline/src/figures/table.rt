@@ -4,8 +4,9 @@ use crate::figures::rows::{CpuRow, Figures, TaskRow};
 use serde_json::to_vec_pretty;
 use std::alloc::{AllocError, Global};
 
-const TASK_HEAD: &str =
-    "task           ran ns  share weight  greatest lag ns     least lag ns     picks preempted ";
+const TASK_HEAD: &str = "task           ran ns  share weight  greatest lag ns     least lag ns ";
+
+const LATE_HEAD: &str = "            late ns            bound ns     picks preempted ";
 
 const WAKE_HEAD: &str =
     "    wakes   mean wake ns    p99 wake ns greatest wake ns          from ns ";
@@ -18,6 +19,7 @@ const CPU_HEAD: &str =
 /// The figures as text: a row for each task and for each CPU.
 pub(crate) fn table_of(alloc: Global, figures: &Figures) -> Result<Vec<u8>, AllocError> {
     let mut text = String::from_str(alloc, TASK_HEAD)?;
+    text.push_str(LATE_HEAD)?;
     text.push_str(WAKE_HEAD)?;
     text.push_str(REST_HEAD)?;
     for row in &figures.tasks {
@@ -45,6 +47,8 @@ fn push_task(alloc: Global, text: &mut String, row: &TaskRow) -> Result<(), Allo
     let weight = percent(alloc, row.weight_share_permille)?;
     let greatest = signed(alloc, row.greatest_lag_ns)?;
     let least = signed(alloc, row.least_lag_ns)?;
+    let late = signed(alloc, row.late_ns)?;
+    let bound = signed(alloc, row.late_bound_ns)?;
     let mean = number(alloc, row.wake_mean_ns)?;
     let p99 = number(alloc, row.wake_p99_ns)?;
     let longest = number(alloc, row.wake_greatest_ns)?;
@@ -54,11 +58,8 @@ fn push_task(alloc: Global, text: &mut String, row: &TaskRow) -> Result<(), Allo
         "{:>4} {:>16} {share:>6} {weight:>6} ",
         row.task, row.ran_ns
     )?;
-    write!(
-        text,
-        "{greatest:>16} {least:>16} {:>9} {:>9} ",
-        row.picks, row.preempted
-    )?;
+    write!(text, "{greatest:>16} {least:>16} {late:>19} {bound:>19} ")?;
+    write!(text, "{:>9} {:>9} ", row.picks, row.preempted)?;
     write!(
         text,
         "{:>9} {mean:>14} {p99:>14} {longest:>16} ",
