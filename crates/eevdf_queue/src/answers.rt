@@ -1,3 +1,4 @@
+use crate::entry::Entry;
 use crate::task_id::TaskId;
 use std::fmt;
 
@@ -10,6 +11,13 @@ pub enum TickAnswer {
     Idle,
     /// The virtual runtime or deadline would have left the range, and nothing was charged.
     Range,
+}
+
+/// What a tick answers, and the entry that the running task had before it: `None` exactly where nobody ran.
+#[derive(Clone, Copy, PartialEq, Eq, Debug)]
+pub struct TickFrom {
+    pub answer: TickAnswer,
+    pub before: Option<Entry>,
 }
 
 /// What a yield answers.

@@ -26,7 +26,7 @@ mod task;
 mod task_id;
 mod tree;
 
-pub use answers::{ReniceAnswer, SetAnswer, TickAnswer, WakeAnswer, YieldAnswer};
+pub use answers::{ReniceAnswer, SetAnswer, TickAnswer, TickFrom, WakeAnswer, YieldAnswer};
 pub use block::Block;
 pub use entry::Entry;
 pub use parcel::Parcel;

@@ -1,7 +1,9 @@
 //! Worked values of the calls of one queue.
 
-use crate::fixtures::{admit, attach, charge_first, charge_first_of_two, parcel, put_asleep, task};
-use eevdf_queue::{Queue, WakeAnswer, YieldAnswer};
+use crate::fixtures::{
+    admit, attach, charge_first, charge_first_of_two, ns, parcel, put_asleep, task,
+};
+use eevdf_queue::{Queue, TickAnswer, WakeAnswer, YieldAnswer};
 use eevdf_weight::{Nice, Slice};
 use std::alloc::Global;
 use std::process::Abort;
@@ -106,6 +108,27 @@ fn adopts_who_waits(rt: &impl Abort, alloc: Global, queue: &mut Queue) {
     stands_at(rt, queue, 1, &yielded);
 }
 
+/// A charge tells the entry of before it, also where it uses the request up, which task 0 has at 3 ms.
+fn tells_the_entry_of_before(rt: &impl Abort, alloc: Global, queue: &mut Queue) {
+    let nobody = queue.tick_from(ns(rt, 1_000_000));
+    assert_eq!(rt; nobody.answer, TickAnswer::Idle);
+    assert_eq!(rt; nobody.before, None);
+    charge_first_of_two(rt, alloc, queue);
+    let charged = queue.tick_from(ns(rt, 2_000_000));
+    let task = task(rt, 0);
+    let resched = true;
+    assert_eq!(rt; charged.answer, TickAnswer::Charged { task, resched });
+    let before = charged.before.expect(rt, "nobody ran");
+    assert_eq!(rt; before.v, 1_000_000);
+    assert_eq!(rt; before.d, 3_000_000);
+    let renewed = Place {
+        v: 3_000_000,
+        d: 6_000_000,
+        lag: -1_500_000,
+    };
+    stands_at(rt, queue, 0, &renewed)
+}
+
 /// Asks that this task, which has nice level 0, is offered with this slice and lag.
 fn is_offered(rt: &impl Abort, queue: &Queue, number: u64, slice_ns: u64, lag: i64) {
     let offer = queue.offer().expect(rt, "nobody waits");
@@ -142,6 +165,7 @@ fn a_queue_comes_to_what_is_worked_out(rt: HostRuntime) {
     leaves_and_joins(rt, alloc, &mut Queue::open());
     sleeps_and_wakes(rt, alloc, &mut Queue::open());
     adopts_who_waits(rt, alloc, &mut Queue::open());
+    tells_the_entry_of_before(rt, alloc, &mut Queue::open());
     offers_who_waits(rt, alloc, &mut Queue::open());
     offers_a_lag_at_its_limit(rt, alloc, &mut Queue::open());
 }

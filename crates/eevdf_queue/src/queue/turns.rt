@@ -9,7 +9,7 @@ ghost use Rattle.eevdf_queue.specs.Tick as ticks;
 ghost use Rattle.eevdf_queue.specs.TimeToResched.{IsShortest, ends_request};
 ghost use Rattle.eevdf_queue.specs.Yield as yields;
 
-use crate::answers::{TickAnswer, YieldAnswer};
+use crate::answers::{TickAnswer, TickFrom, YieldAnswer};
 use crate::entry::Entry;
 use crate::queue::Queue;
 use crate::queue::time_to_use_up::time_to_use_up;
@@ -105,6 +105,38 @@ impl Queue {
         let Some(runner) = self.runner() else {
             return TickAnswer::Idle;
         };
+        self.charge(runner, ns)
+    }
+
+    /// Charges the running task as [`tick`](Queue::tick) does, and tells besides the entry that it had before. Both take one search.
+    #[inline(always)]
+    pub fn tick_from(&mut self, ns: Ns) -> TickFrom
+        ensures answer { result.answer ≡ (ticks.tick self.old.state ns).0 }
+        ensures before { result.before ≡ ticks.running_entry self.old.state }
+        ensures after { self.new.state ≡ (ticks.tick self.old.state ns).1 }
+        ensures pick_depth { self.new.pick_depth ≡ self.old.pick_depth }
+    {
+        let Some(runner) = self.runner() else {
+            return TickFrom {
+                answer: TickAnswer::Idle,
+                before: None,
+            };
+        };
+        let before = Some(runner.entry);
+        let answer = self.charge(runner, ns);
+        TickFrom { answer, before }
+    }
+
+    /// Charges the task that runs, which has this entry.
+    #[inline(always)]
+    fn charge(&mut self, runner: Runner, ns: Ns) -> TickAnswer
+        requires runs { Some runner.task ≡ self.old.state.running }
+        requires here { map.get self.old.state.runnable runner.task ≡ Some runner.entry }
+        requires in_range { moves.is_entry_in_range runner.entry ≡ true }
+        ensures answer { result ≡ (ticks.tick self.old.state ns).0 }
+        ensures after { self.new.state ≡ (ticks.tick self.old.state ns).1 }
+        ensures pick_depth { self.new.pick_depth ≡ self.old.pick_depth }
+    {
         let charged = charged(&runner.entry, ns);
         if !charged.resched {
             self.runnable
