@@ -108,7 +108,7 @@ def longest_wait(charges, entries, task):
 
 def shares(seen, longest, first=0):
     """The share of each task since this one of the charges, before which nothing but turns happened since a fresh start or healing. With
-    what rounding took, and in time alone, by the shortest of the ticks; and how long it waits."""
+    what rounding took, by how many charges there were, and in time alone, by the shortest of the ticks; and how long it waits."""
     charges = seen.charges[first:]
     ran, lost = dict.fromkeys(seen.entries, 0), dict.fromkeys(seen.entries, 0)
     for ns, task in charges:
@@ -123,6 +123,10 @@ def shares(seen, longest, first=0):
         swing = min(by_slice, seen.weight * seen.others(longest))
         off = seen.weight * (1024 * ran[task] - lost[task]) - weight * (1024 * whole - part)
         yield "share", abs(off), swing
+        own = sum(charged == task for _, charged in charges)
+        ahead_by_charges = 1024 * (seen.weight * ran[task] - weight * whole)
+        yield "share by charges at most", ahead_by_charges, seen.weight * most_lost(weight) * own + swing
+        yield "share by charges at least", -ahead_by_charges, weight * most * len(charges) + swing
         ahead_in_time = 1024 * least * (seen.weight * ran[task] - weight * whole)
         yield "share of time at most", ahead_in_time, seen.weight * most_lost(weight) * ran[task] + least * swing
         yield "share of time at least", -ahead_in_time, weight * most * whole + least * swing

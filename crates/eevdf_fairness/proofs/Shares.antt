@@ -29,6 +29,11 @@ in_time_least w W swing m T R s r u h k =
     let is = in_time_by (w * (1024 * T)) (W * (1024 * s)) swing R (W * r) m u w h k in
     omega (arith, is)
 
+by_charges : (A B C X Y u p : ℕ) → A + Y ≤ B + p * X + C → X ≤ u → A ≤ B + p * u + C
+by_charges A B C X Y u p h k =
+    let part : X * p ≤ u * p = mul-le-mul_right p k in
+    omega (arith, h, part)
+
 little_lost : (m x u k t : ℕ) → x ≤ u * k → m * k ≤ t → m * x ≤ u * t
 little_lost m x u k t h l =
     let lost : x * m ≤ (u * k) * m = mul-le-mul_right m h in
@@ -55,10 +60,23 @@ share_of ns front q turns t e here w z =
     in_time_least (weight_of e.nice) (total_weight q.runnable) (swing ns q.runnable e) least (cpu_time q turns) (cpu_rounding q turns) (task_time t q turns)
     (task_rounding t q turns) (most * cpu_time q turns) share.at_least
     (little_lost least (cpu_rounding q turns) most (cpu_charges q turns) (cpu_time q turns) (passed.rounded most none) (cpu_charges_long least q turns long)) in
+    let least_by_charges : (most : ℕ) → NoneLosesMore most q.runnable → weight_of e.nice * (1024 * cpu_time q turns)
+    ≤ total_weight q.runnable * (1024 * task_time t q turns) + weight_of e.nice * (most * cpu_charges q turns) + swing ns q.runnable e =
+    λ most none.
+    by_charges (weight_of e.nice * (1024 * cpu_time q turns)) (total_weight q.runnable * (1024 * task_time t q turns)) (swing ns q.runnable e) (cpu_rounding q turns)
+    (total_weight q.runnable * task_rounding t q turns) (most * cpu_charges q turns) (weight_of e.nice) share.at_least (passed.rounded most none) in
     record {
       share = share;
       task_rounded = served.rounded;
       cpu_rounded = passed.rounded;
+      by_charges = λ most none. record {
+        at_most = by_charges (total_weight q.runnable * (1024 * task_time t q turns)) (weight_of e.nice * (1024 * cpu_time q turns)) (swing ns q.runnable e) (task_rounding t q turns)
+            (weight_of e.nice * cpu_rounding q turns) (most_lost (weight_of e.nice) * task_charges t q turns) (total_weight q.runnable) share.at_most served.rounded;
+        at_least = least_by_charges most none;
+      };
+      waits_by_charges = λ most none idle.
+          none_run (total_weight q.runnable) 1024 (weight_of e.nice * (1024 * cpu_time q turns)) (weight_of e.nice * (most * cpu_charges q turns))
+          (swing ns q.runnable e) (task_time t q turns) idle (least_by_charges most none);
       in_time = λ least most long none. record {
         at_most = in_time_most (weight_of e.nice) (total_weight q.runnable) (swing ns q.runnable e) least (cpu_time q turns) (cpu_rounding q turns) (task_time t q turns)
             (task_rounding t q turns) (most_lost (weight_of e.nice) * task_time t q turns) share.at_most

@@ -36,6 +36,11 @@ pub record IsShareOfTime (w W swing m most T s : ℕ) : Type 0 where
   pub at_most : W * (1024 * m * s) ≤ w * (1024 * m * T) + W * (most_lost w * s) + m * swing
   pub at_least : w * (1024 * m * T) ≤ W * (1024 * m * s) + w * (most * T) + m * swing
 
+-- The same by how many charges there were, however short the ticks: from each rounding takes at most so much.
+pub record IsShareByCharges (w W swing most all own T s : ℕ) : Type 0 where
+  pub at_most : W * (1024 * s) ≤ w * (1024 * T) + W * (most_lost w * own) + swing
+  pub at_least : w * (1024 * T) ≤ W * (1024 * s) + w * (most * all) + swing
+
 -- over turns that begin at the queue `q`, of a task with the entry `e` there
 pub record HasItsShare (ns : ℕ) (q : State) (turns : List Turn) (t : ℕ) (e : Entry) : Type 0 where
   pub share : IsShare (weight_of e.nice) (total_weight q.runnable) (swing ns q.runnable e)
@@ -45,10 +50,15 @@ pub record HasItsShare (ns : ℕ) (q : State) (turns : List Turn) (t : ℕ) (e :
   pub in_time : (least most : ℕ) → HaveNoShorterTicks least turns → NoneLosesMore most q.runnable
       → IsShareOfTime (weight_of e.nice) (total_weight q.runnable) (swing ns q.runnable e) least most
       (cpu_time q turns) (task_time t q turns)
+  pub by_charges : (most : ℕ) → NoneLosesMore most q.runnable
+      → IsShareByCharges (weight_of e.nice) (total_weight q.runnable) (swing ns q.runnable e) most
+      (cpu_charges q turns) (task_charges t q turns) (cpu_time q turns) (task_time t q turns)
   -- so it doesn't wait for long: while it doesn't run at all the CPU runs for no more than this
   pub waits : (least most : ℕ) → HaveNoShorterTicks least turns → NoneLosesMore most q.runnable → task_time t q turns ≡ 0
       → weight_of e.nice * (1024 * least * cpu_time q turns)
       ≤ weight_of e.nice * (most * cpu_time q turns) + least * swing ns q.runnable e
+  pub waits_by_charges : (most : ℕ) → NoneLosesMore most q.runnable → task_time t q turns ≡ 0
+      → weight_of e.nice * (1024 * cpu_time q turns) ≤ weight_of e.nice * (most * cpu_charges q turns) + swing ns q.runnable e
 
 -- over any stretch of turns after a fresh start, none of them longer, each task has its share
 abbrev pub TurnsGiveShares : Type 0
