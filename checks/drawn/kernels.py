@@ -53,7 +53,7 @@ class Draws:
 def make_call(fair, draws, calls):
     """Makes a drawn call, of these besides a tick and a pick, and answers its kind, and the task that it may have moved, if it is of one
     task."""
-    task, kind = draws.below(TASKS), draws.below(19)
+    task, kind = draws.below(TASKS), draws.below(9 + len(calls))
     if kind < 5:
         fair.tick(draws.tick())
         return "tick", None
@@ -122,12 +122,39 @@ def rebase(fair, _task, _draws):
     fair.rebase()
 
 
+def stop(fair, _task, _draws):
+    fair.queue.running = None
+
+
+def set_slice(fair, task, draws):
+    fair.queue.set_slice(task, draws.slice_length())
+
+
+def begin_anew(fair, task, draws):
+    nice, length = draws.nice(), draws.slice_length()
+    fair.queue.begin(task, nice, length)
+
+
+def put_back(fair, task, _draws):
+    """A task is taken out, and comes back with its lag, or ends where it can't be placed."""
+    queue, load = fair.queue, fair.queue.load()
+    if task not in queue.runnable:
+        return
+    carried = queue.leave(task)
+    fair.clock.reload(load, queue.load())
+    load = queue.load()
+    if queue.can_place(carried.nice, carried.length, carried.lag):
+        fair.change(task, lambda queue: queue.put(task, carried.nice, carried.length, carried.lag))
+    fair.clock.reload(load, queue.load())
+
+
 COMMON = (("yield", yield_now), ("sleep", sleep), ("wake", wake), ("renice", renice), ("set", set_both), ("begin", begin), ("end", end),
           ("doze", doze), ("adopt", adopt))
 # The calls of the program in Rattle, and of one in C, where bounds can't be measured.
-CALLS = (*COMMON, ("measure", measure))
+CALLS = (*COMMON, ("measure", measure), ("rebase", rebase), ("stop", stop), ("slice", set_slice), ("anew", begin_anew),
+         ("put back", put_back))
 CALLS_IN_C = (*COMMON, ("rebase", rebase))
-MOVING = ("wake", "renice", "set", "begin", "end")
+MOVING = ("wake", "renice", "set", "begin", "end", "put back")
 
 
 class Model:

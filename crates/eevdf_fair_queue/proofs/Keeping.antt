@@ -4,7 +4,8 @@ use Rattle.std.specs.Prelude.{ℤ, MatchResult}
 use Rattle.std.specs.{Ordering.nat_cmp, Ordering.eq_by_cmp, Cmp.nat_cmp_total, FinMap.get, FinMap.contains_key, FinMap.remove, FinMap.get-remove}
 use Rattle.eevdf_queue.specs.{declared.entry.Entry.Entry, declared.sleeper.Sleeper.Sleeper, State.State, State.Contents, Kept.IsKept, Laws.PickIsFirst, Laws.PickOfNobody}
 use Rattle.eevdf_queue.specs.{Attributes.begin, Attributes.begin_sleeper, Leaving.leave, Leaving.leave_running, Leaving.leave_asleep, Leaving.without_entry, Leaving.without_sleeper, Leaving.stopped, Leaving.carried_running, Leaving.nobody_runs, Candidate.is_running, Moves.put_asleep}
-use Rattle.eevdf_queue.specs.{Doze.dozed, Doze.doze, Doze.put_dozing, Pick.picked_by, Pick.adopted}
+use Rattle.eevdf_queue.specs.{Doze.dozed, Doze.doze, Doze.put_dozing, Pick.picked_by, Pick.pick_of, Pick.adopted}
+use Rattle.eevdf_queue.specs.{Ascending.sleeping_tasks, Closing.first_number, Closing.take_sleeper, Closing.take_first, Closing.take_any}
 use Rattle.eevdf_fair_queue.specs.{declared.bounds.Bounds.Bounds, declared.bounds.Mark.Mark, Bounds.settled, Bounds.adopted as unpicked}
 use Rattle.eevdf_fair_queue.specs.Fair.{IsFair, mark_of}
 use Rattle.eevdf_fair_queue.proofs.{Settled.IsOfOne, Settled.settles}
@@ -113,6 +114,19 @@ adopt_keeps q b task here is fair =
     by : (c : Bool) → IsFair (cond c (picked_by q (Some task)) q) (unpicked b c)
     by true = record { due = fair.due; longest = fair.longest; near = fair.near; turn = λ turn none. absurd (cc) }
     by false = fair
+
+-- a task is taken out, whichever it is
+pub any_taken_keeps : (q : State) (b : Bounds) → IsFair q b → IsFair (take_any q).1 b
+any_taken_keeps q b fair =
+    by (pick_of q.runnable)
+  where
+    sleeper : (o : Option ℕ) → IsFair (take_sleeper q o).1 b
+    sleeper None = fair
+    sleeper (Some task) = taken_asleep_keeps q b task fair
+
+    by : (o : Option ℕ) → IsFair (take_first q o).1 b
+    by None = sleeper (first_number (sleeping_tasks q))
+    by (Some task) = leave_keeps q b task fair
 
 pub dozing_keeps : (q : State) (b : Bounds) (p : Contents) → IsFair q b → IsFair (put_dozing q p) b
 dozing_keeps q b p fair = fewer q (put_dozing q p) b fair (λ t x at. at) (λ t runs. runs)

@@ -5,6 +5,7 @@ ghost use Rattle.eevdf_fair_queue.specs.Bounds as bounds;
 ghost use Rattle.eevdf_fair_queue.specs.Fair.{IsFair};
 ghost use Rattle.eevdf_fair_queue.specs.ShareClock as clock;
 
+mod carrying;
 mod changes;
 mod lateness;
 mod leavings;

@@ -56,9 +56,11 @@ impl SeatBound {
         }
     }
 
-    /// By how much the virtual time of the CPU can be past the deadline of a pending request, at most, while no task on it is lighter than
-    /// one of this nice level: what that one is charged for the longest turn, in virtual time. Level 19 is enough for all. `None` where the
-    /// longest turn isn't known.
+    /// By how much the virtual time of the CPU can be past the deadline of a pending request, at most, where no task on it is lighter than
+    /// one of this nice level: what that one is charged for the longest turn, in virtual time. Level 19 is enough for all. It is said of a
+    /// task that has stayed there since a pick that was handed over, at which nobody stood further past its deadline, and as long as the
+    /// other runnable tasks of the CPU come and go by dozes and wakes alone: one that is pulled there with a debt can be further past it.
+    /// `None` where the longest turn isn't known.
     pub fn lateness_bound(self, lightest: Nice) -> Option<u128>
         ensures value { result ≡ lateness_bound self lightest }
         ensures late { IfSome result (NoneIsLater self lightest) }

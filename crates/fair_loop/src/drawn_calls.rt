@@ -8,12 +8,12 @@ use std::alloc::Global;
 /// The tasks that come and go have numbers below this.
 const TASKS: u64 = 12;
 
-/// Makes one drawn call: of 19 five are ticks, and four picks. Answers the task that it may have moved, if it is of one task.
+/// Makes one drawn call: of 24 five are ticks, and four picks. Answers the task that it may have moved, if it is of one task.
 pub fn make_call(queue: &mut FairQueue, alloc: Global, draws: &mut Draws) -> Option<TaskId> {
     let task = draws.task(TASKS);
-    let kind = draws.below(19);
+    let kind = draws.below(24);
     call(queue, alloc, draws, task, kind);
-    if 11 <= kind && kind < 16 {
+    if (11 <= kind && kind < 16) || kind == 23 {
         Some(task)
     } else {
         None
@@ -48,7 +48,20 @@ fn call(queue: &mut FairQueue, alloc: Global, draws: &mut Draws, task: TaskId, k
         17 => {
             let _ = queue.adopt(task);
         }
-        _ => queue.measure(),
+        18 => queue.measure(),
+        19 => {
+            let _ = queue.rebase();
+        }
+        20 => {
+            let _ = queue.stop_running();
+        }
+        21 => {
+            let _ = queue.set_slice(task, draws.slice());
+        }
+        22 => {
+            let _ = queue.begin(task, draws.nice(), draws.slice());
+        }
+        _ => put_back(queue, task),
     }
 }
 
@@ -73,6 +86,16 @@ fn begin(queue: &mut FairQueue, alloc: Global, task: TaskId, draws: &mut Draws) 
         return;
     };
     if let Err(Refused { parcel, reason: _ }) = queue.try_admit(parcel) {
+        parcel.retire();
+    }
+}
+
+/// A task is taken out and comes back with its lag, or ends where it can't be placed.
+fn put_back(queue: &mut FairQueue, task: TaskId) {
+    let Some(parcel) = queue.detach_runnable(task) else {
+        return;
+    };
+    if let Err(Refused { parcel, reason: _ }) = queue.try_attach(parcel) {
         parcel.retire();
     }
 }

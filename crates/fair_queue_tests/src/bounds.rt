@@ -158,3 +158,25 @@ fn any_queue_can_be_measured(rt: HostRuntime) {
     );
     assert_eq!(rt; queue.lateness_bound(), 7_000_000);
 }
+
+/// Two tasks with slices of 3 ms, of which task 0 has run for 1 ms: its request is used up by 2 ms more, also where its slice is shorter
+/// now, and task 1 alone is eligible. Then nobody runs. The bounds stay.
+#[test]
+fn who_runs_and_slices_leave_the_bounds(rt: HostRuntime) {
+    let rt = &rt;
+    let mut queue = FairQueue::open();
+    join(rt, rt.alloc(), &mut queue, 0, Slice::default());
+    join(rt, rt.alloc(), &mut queue, 1, Slice::default());
+    assert_eq!(rt; queue.pick(), Some(task(rt, 0)));
+    queue.tick(ns(rt, 1_000_000));
+    let bounds = queue.bounds();
+    assert_eq!(rt; queue.time_to_resched(), Some(ns(rt, 2_000_000)));
+    assert_eq!(rt; queue.peek(), Some(task(rt, 1)));
+    assert!(rt; queue.set_slice(task(rt, 0), Slice::MIN));
+    assert_eq!(rt; queue.time_to_resched(), Some(ns(rt, 2_000_000)));
+    assert_eq!(rt; queue.stop_running(), Some(task(rt, 0)));
+    assert_eq!(rt; queue.time_to_resched(), None);
+    assert_eq!(rt; queue.stop_running(), None);
+    assert!(rt; !queue.set_slice(task(rt, 2), Slice::MIN));
+    assert_eq!(rt; queue.bounds(), bounds);
+}

@@ -45,7 +45,9 @@ impl Bounds {
         let time = queue.floor_time();
         self.late_by(lesser(time, entry.d))
     }
-    /// The same in nanoseconds, rounded up: for how long at most a request that is due has been so, by the load that the queue has.
+
+    /// The same in nanoseconds, rounded up: in so many at most the CPU goes through that virtual time, at the load that the queue has now. It
+    /// isn't how long a request has been due: the load may have been another one meanwhile, and charges are rounded down.
     pub fn lateness_bound_in_time(&self, queue: &Queue) -> u128
         ensures value { result ≡ in_time (lateness_bound queue.now.state self.now)
             (total_weight queue.now.state.runnable) }

@@ -12,7 +12,7 @@ ghost use Rattle.eevdf_fair_queue.specs.Fair.{IsFair, charged_by};
 
 use crate::bounds::Bounds;
 use eevdf_queue::laws::{every_queue, pick_is_first, pick_of_nobody};
-use eevdf_queue::{Entry, Queue, TaskId, TickAnswer};
+use eevdf_queue::{Entry, Queue, TaskId, TickAnswer, TickFrom};
 use eevdf_weight::{Ns, level_charge};
 
 impl Bounds {
@@ -45,12 +45,10 @@ impl Bounds {
         ensures fair { IsFair queue.old.state self.old → IsFair queue.new.state self.new }
     {
         every_queue(queue);
-        // after a tick that ends a request the entry would have to be searched for
-        let runner = queue.running_entry();
-        let answer = queue.tick(ns);
+        let TickFrom { answer, before } = queue.tick_from(ns);
         every_queue(queue);
         if let TickAnswer::Charged { .. } = answer {
-            self.charge_from(ns, runner);
+            self.charge_from(ns, before);
         }
         answer
     }

@@ -31,7 +31,9 @@ impl FairQueue {
     {
         self.bounds.lateness_bound(&self.queue)
     }
-    /// The same in nanoseconds, rounded up: for how long at most a request that is due has been so, by the load that the queue has.
+
+    /// The same in nanoseconds, rounded up: in so many at most the CPU goes through that virtual time, at the load that the queue has now. It
+    /// isn't how long a request has been due: the load may have been another one meanwhile, and charges are rounded down.
     pub fn lateness_bound_in_time(&self) -> u128
         ensures value { result ≡ in_time (lateness_bound self.now.queue.state self.now.bounds)
             (total_weight self.now.queue.state.runnable) }

@@ -1,10 +1,12 @@
-//! How tasks fall asleep, begin anew and leave: no bound grows by that.
+//! How tasks fall asleep, begin anew, get another slice and leave: no bound grows by that.
 
 ghost use Rattle.std.specs.Prelude.{◌≡◌, ◌↔◌, IfSome, IsNone, false};
 ghost use Rattle.std.specs.Option.{option_map};
 ghost use Rattle.std.specs.FinMap as map;
 ghost use Rattle.eevdf_queue.specs.Attributes as attributes;
 ghost use Rattle.eevdf_queue.specs.Doze as dozes;
+ghost use Rattle.eevdf_queue.specs.SliceChange as changes;
+ghost use Rattle.eevdf_queue.specs.Trying.{is_here};
 ghost use Rattle.eevdf_queue.specs.Leaving.{IsNowhere, carried, carried_asleep, carried_running, leave, leave_asleep};
 ghost use Rattle.eevdf_fair_queue.specs.Owed.{reloaded_from};
 ghost use Rattle.eevdf_fair_queue.specs.Sleeping.{slept};
@@ -83,5 +85,19 @@ impl FairQueue {
         ensures clock { self.new.clock ≡ self.old.clock }
     {
         self.queue.begin(task, nice, slice)
+    }
+
+    /// Gives a task another slice as [`Queue::set_slice`](eevdf_queue::Queue::set_slice) does.
+    pub fn set_slice(&mut self, task: TaskId, slice: Slice) -> bool
+        ensures here { result ≡ is_here self.old.queue.state task }
+        ensures after { self.new.queue.state ≡ changes.set_slice self.old.queue.state task slice }
+        ensures pick_depth { self.new.queue.pick_depth ≡ self.old.queue.pick_depth }
+        ensures bounds { self.new.bounds ≡ self.old.bounds }
+        ensures clock { self.new.clock ≡ reloaded_from self.old self.new }
+    {
+        let before = self.queue.load();
+        let here = self.queue.set_slice(task, slice);
+        self.clock.reload(before, self.queue.load());
+        here
     }
 }

@@ -10,7 +10,7 @@ use eevdf_weight::weight;
 
 impl FairQueue {
     /// Marks this moment for a runnable task: from now on it has had nothing of its share of the CPU, and lacks nothing. `None` where the
-    /// task isn't runnable here.
+    /// task isn't runnable here, or the clock has left its range.
     pub fn share_mark(&self, task: TaskId) -> Option<ShareMark>
         ensures value { result ≡ share_mark self.now task }
         ensures owed { IfSome result (λ mark. IsOwed self.now task mark no_share 0) }
@@ -22,8 +22,9 @@ impl FairQueue {
     }
 
     /// How many nanoseconds a runnable task lacks of its share of the CPU since a mark, at most. Its share of each nanosecond that the CPU
-    /// was charged is its weight over the load of then, however short the ticks were. It holds while the task stays runnable here with its
-    /// nice level. `None` where it isn't runnable here.
+    /// was charged is its weight over the load of then, however short the ticks were. It holds while the task stays runnable here and is
+    /// placed anew by no call: after a renice or a set, also to its own level, it is marked again. `None` where it isn't runnable here, or
+    /// the clock or the mark is out of its range.
     pub fn share_bound(&self, task: TaskId, mark: ShareMark) -> Option<u128>
         ensures value { result ≡ share_bound self.now task mark }
         ensures owed { IfSome result (LacksNoMore self.now task mark) }

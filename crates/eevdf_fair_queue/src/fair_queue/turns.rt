@@ -2,10 +2,12 @@
 
 ghost use Rattle.std.specs.Prelude.{◌≡◌, ◌↔◌, IfSome, IsNone, pos, true};
 ghost use Rattle.std.specs.FinMap as map;
+ghost use Rattle.eevdf_queue.specs.Leaving.{nobody_runs};
 ghost use Rattle.eevdf_queue.specs.Pick.{IsPick, adopted, after_pick, pick_of, view_after_pick};
 ghost use Rattle.eevdf_queue.specs.Rebase as rebases;
 ghost use Rattle.eevdf_queue.specs.Sums.{virtual_time};
 ghost use Rattle.eevdf_queue.specs.Tick as ticks;
+ghost use Rattle.eevdf_queue.specs.TimeToResched.{IsShortest, ends_request};
 ghost use Rattle.eevdf_queue.specs.Yield as yields;
 ghost use Rattle.eevdf_fair_queue.specs.Bounds as bounds;
 ghost use Rattle.eevdf_fair_queue.specs.Fair.{charged_by};
@@ -29,6 +31,23 @@ impl FairQueue {
         ensures clock { self.new.clock ≡ self.old.clock }
     {
         self.bounds.pick(&mut self.queue)
+    }
+
+    /// The task that a pick would let run now, as [`Queue::peek`](eevdf_queue::Queue::peek) answers it.
+    pub fn peek(&self) -> Option<TaskId>
+        ensures number { result ≡ pick_of self.now.queue.state.runnable }
+        ensures picked { IfSome result (IsPick self.now.queue.state.runnable) }
+        ensures none { IsNone result ↔ (self.now.queue.state.runnable ≡ map.empty) }
+    {
+        self.queue.peek()
+    }
+
+    /// The shortest tick that uses up the running task's request, as [`Queue::time_to_resched`](eevdf_queue::Queue::time_to_resched)
+    /// answers it.
+    pub fn time_to_resched(&self) -> Option<Ns>
+        ensures { IsShortest (λ ns. ends_request (ticks.tick self.now.queue.state ns).0) result }
+    {
+        self.queue.time_to_resched()
     }
 
     /// Charges the running task as [`Queue::tick`](eevdf_queue::Queue::tick) does. The turn is longer by the charge, and with it, where it
@@ -58,6 +77,17 @@ impl FairQueue {
         ensures clock { self.new.clock ≡ self.old.clock }
     {
         self.bounds.adopt(&mut self.queue, task)
+    }
+
+    /// Lets nobody run as [`Queue::stop_running`](eevdf_queue::Queue::stop_running) does.
+    pub fn stop_running(&mut self) -> Option<TaskId>
+        ensures stopped { result ≡ self.old.queue.state.running }
+        ensures after { self.new.queue.state ≡ nobody_runs self.old.queue.state }
+        ensures pick_depth { self.new.queue.pick_depth ≡ self.old.queue.pick_depth }
+        ensures bounds { self.new.bounds ≡ self.old.bounds }
+        ensures clock { self.new.clock ≡ self.old.clock }
+    {
+        self.queue.stop_running()
     }
 
     /// Makes the running task's deadline later as [`Queue::yield_now`](eevdf_queue::Queue::yield_now) does.

@@ -28,35 +28,35 @@ not_charged b ns r Range not = refl
 
 pub charge_from-requires : goal.charge_from-requires
 charge_from-requires c =
-    runner_in_range c.args.queue.now.state c.every_queue.ensures.in_range c.running_entry-runner.result c.running_entry-runner.ensures
+    runner_in_range c.args.queue.now.state c.every_queue.ensures.in_range c.tick_from-answer.result.before c.tick_from-answer.ensures.before
 
 -- the bounds are those after the charge of who is charged
 tallied : (c : After-charge_from) → c.charge_from.new.self
     ≡ charged_by c.args.self.now c.args.ns (tick c.args.queue.now.state c.args.ns).0 (tick c.args.queue.now.state c.args.ns).1
 tallied c =
-    c.charge_from.ensures ∙ ap (charged_from c.args.self.now c.args.ns) c.running_entry-runner.ensures
+    c.charge_from.ensures ∙ ap (charged_from c.args.self.now c.args.ns) c.tick_from-answer.ensures.before
     ∙ sym (charged_before c.args.queue.now.state c.args.self.now c.args.ns c.in-Charged.task c.in-Charged.resched
-    (sym c.tick-answer.ensures.answer ∙ c.in-Charged.is))
+    (sym c.tick_from-answer.ensures.answer ∙ c.in-Charged.is))
 
 pub returns-in-Charged-clause-fair : goal.returns-in-Charged-clause-fair
 returns-in-Charged-clause-fair c = λ fair.
-    fair_of _ _ _ _ c.tick-answer.ensures.after (tallied (goal.at.returns-in-Charged-clause-fair c).After-charge_from)
+    fair_of _ _ _ _ c.tick_from-answer.ensures.after (tallied (goal.at.returns-in-Charged-clause-fair c).After-charge_from)
     (tick_keeps c.args.queue.now.state c.args.self.now c.args.ns c.every_queue.ensures fair
-    (subst (λ (x : State). AreInRange x.runnable) c.tick-answer.ensures.after c.every_queue-2.ensures.in_range))
+    (subst (λ (x : State). AreInRange x.runnable) c.tick_from-answer.ensures.after c.every_queue-2.ensures.in_range))
 
 pub returns-in_default-clause-fair : goal.returns-in_default-clause-fair
 returns-in_default-clause-fair c = λ fair.
     let q = c.args.queue.now.state in
     let b = c.args.self.now in
-    fair_of _ _ _ _ c.tick-answer.ensures.after
-    (not_charged b c.args.ns (tick q c.args.ns).1 (tick q c.args.ns).0 (λ task resched is. c.in_default.not-Charged task resched (c.tick-answer.ensures.answer ∙ is)))
+    fair_of _ _ _ _ c.tick_from-answer.ensures.after
+    (not_charged b c.args.ns (tick q c.args.ns).1 (tick q c.args.ns).0 (λ task resched is. c.in_default.not-Charged task resched (c.tick_from-answer.ensures.answer ∙ is)))
     (tick_keeps q b c.args.ns c.every_queue.ensures fair
-    (subst (λ (x : State). AreInRange x.runnable) c.tick-answer.ensures.after c.every_queue-2.ensures.in_range))
+    (subst (λ (x : State). AreInRange x.runnable) c.tick_from-answer.ensures.after c.every_queue-2.ensures.in_range))
 
 pub returns-in-Charged-clause-bounds : goal.returns-in-Charged-clause-bounds
 returns-in-Charged-clause-bounds c =
     let q = c.args.queue.now.state in
     let b = c.args.self.now in
     tallied (goal.at.returns-in-Charged-clause-bounds c).After-charge_from
-    ∙ ap (λ (a : TickAnswer). charged_by b c.args.ns a (tick q c.args.ns).1) (sym c.tick-answer.ensures.answer)
-    ∙ ap (charged_by b c.args.ns c.tick-answer.result) (sym c.tick-answer.ensures.after)
+    ∙ ap (λ (a : TickAnswer). charged_by b c.args.ns a (tick q c.args.ns).1) (sym c.tick_from-answer.ensures.answer)
+    ∙ ap (charged_by b c.args.ns c.tick_from-answer.result.answer) (sym c.tick_from-answer.ensures.after)
