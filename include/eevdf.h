@@ -638,8 +638,8 @@ int64_t eevdf_pull_task(eevdf_queue *to, eevdf_queue *from, uint64_t task);
  * just opened. Takes no memory, and bounds needn't be closed.
  * Bounds say at every moment by how much the virtual time can be past the deadline of a pending
  * request, however many tasks come, leave, sleep and wake: by the most that a turn was charged
- * since the queue was empty, but for what a task that came out of its place has moved the front.
- * Nobody says beforehand how long ticks are.
+ * since the queue was empty, but for what a task has moved the front that came before the pick, as
+ * one can that wakes, or past the virtual time. Nobody says beforehand how long ticks are.
  * They are true as long as each change that could make them untrue is made through the calls below:
  * these stand for eevdf_pick, eevdf_run, eevdf_tick, eevdf_admit, eevdf_admit_in, eevdf_put,
  * eevdf_wake, eevdf_renice, eevdf_set and eevdf_rebase, do to the queue what those do, and answer
@@ -737,7 +737,18 @@ int64_t eevdf_fair_rebase(eevdf_bounds *bounds, eevdf_queue *queue, int64_t *by)
 int64_t eevdf_fair_lateness_bound(const eevdf_bounds *bounds, const eevdf_queue *queue);
 
 /*
- * Writes the same of a task's own deadline to `by`. Answers 0. On an error `by` isn't touched.
+ * Writes the same in nanoseconds, rounded up, to `ns`: in so many a CPU goes through that virtual
+ * time, at the load that the queue has now. It isn't how long a request has been due: the load may
+ * have been another one meanwhile, and charges are rounded down. Answers 0. On an error `ns` isn't
+ * touched.
+ * Lock: the queue's. Interrupts: yes. RANGE: the number is 2^63 or more.
+ */
+int64_t eevdf_fair_lateness_bound_in_time(const eevdf_bounds *bounds, const eevdf_queue *queue,
+					  int64_t *ns);
+
+/*
+ * Writes by how much the virtual time can be past a task's own deadline, at most, to `by`: in
+ * virtual time. Answers 0. On an error `by` isn't touched.
  * Lock: the queue's. Interrupts: yes. INVALID: no number of a task. ABSENT: it isn't runnable here.
  */
 int64_t eevdf_fair_lateness_bound_of(const eevdf_bounds *bounds, const eevdf_queue *queue,
@@ -773,10 +784,12 @@ int64_t eevdf_fair_share_rebase(eevdf_shares *shares, eevdf_bounds *bounds, eevd
 
 /*
  * Writes a mark of this moment to `mark`, from which on a task has had nothing of its share, and
- * lacks nothing. It holds while the task stays runnable here with its nice level: where it slept,
- * was moved or got another level, it is marked again. Answers 0. On an error `mark` isn't touched.
+ * lacks nothing. It holds while the task stays runnable here and isn't placed anew: where it slept,
+ * was moved, or was given a level by eevdf_fair_renice or eevdf_fair_set, also its own, it is marked
+ * again. Answers 0. On an error `mark` isn't touched.
  * Lock: the queue's. Interrupts: yes. INVALID: no number of a task. ABSENT: it isn't runnable here.
- * RANGE: the shares have left their range, which takes more than 100 years.
+ * RANGE: the shares have left their range, which takes more than 100 years of charges, or some 256
+ * rebases that each lower the virtual times by 2^60.
  */
 int64_t eevdf_fair_share_mark(const eevdf_shares *shares, const eevdf_queue *queue, uint64_t task,
 			      eevdf_share_mark *mark);

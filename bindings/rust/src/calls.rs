@@ -72,6 +72,7 @@ extern "C" {
     pub fn eevdf_fair_renice(bounds: *mut c_void, queue: *mut c_void, task: u64, nice: i64) -> i64;
     pub fn eevdf_fair_set(bounds: *mut c_void, queue: *mut c_void, task: u64, nice: i64, slice_ns: u64) -> i64;
     pub fn eevdf_fair_lateness_bound(bounds: *const c_void, queue: *const c_void) -> i64;
+    pub fn eevdf_fair_lateness_bound_in_time(bounds: *const c_void, queue: *const c_void, ns: *mut i64) -> i64;
     pub fn eevdf_fair_lateness_bound_of(bounds: *const c_void, queue: *const c_void, task: u64, by: *mut i64) -> i64;
     pub fn eevdf_fair_share_open(shares: *mut c_void);
     pub fn eevdf_fair_share_tick(shares: *mut c_void, bounds: *mut c_void, queue: *mut c_void, ns: u64) -> i64;

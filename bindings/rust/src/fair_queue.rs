@@ -230,7 +230,18 @@ impl<'a> FairQueue<'a> {
         unsafe { calls::eevdf_fair_lateness_bound(self.bounds.0.as_ptr().cast(), self.queue.shared_place()) }
     }
 
-    /// The same of a task's own deadline.
+    /// The same in nanoseconds, rounded up: in so many a CPU goes through that virtual time, at the load that the queue has now. It isn't how
+    /// long a request has been due: the load may have been another one meanwhile, and charges are rounded down.
+    ///
+    /// `Range`, where the number is 2^63 or more.
+    pub fn lateness_bound_in_time(&self) -> Result<u64> {
+        let mut ns = 0;
+        let bounds = self.bounds.0.as_ptr().cast();
+        done(unsafe { calls::eevdf_fair_lateness_bound_in_time(bounds, self.queue.shared_place(), &mut ns) })?;
+        Ok(ns as u64)
+    }
+
+    /// By how much the virtual time can be past a task's own deadline, at most.
     ///
     /// `Invalid`, or `Absent` where it isn't runnable here.
     pub fn lateness_bound_of(&self, task: u64) -> Result<i64> {
@@ -241,7 +252,7 @@ impl<'a> FairQueue<'a> {
     }
 
     /// Marks this moment for a task, which from now on has had nothing of its share of the CPU, and lacks nothing. It holds while the task
-    /// stays runnable here with its nice level.
+    /// stays runnable here and isn't placed anew: after a renice or a set, also to its own level, it is marked again.
     ///
     /// `Invalid`, or `Absent` where it isn't runnable here. `Range`, where the shares have left their range.
     pub fn share_mark(&self, task: u64) -> Result<ShareMark> {

@@ -21,6 +21,8 @@ fn the_longest_turn_is_the_bound() {
     assert_eq!(queue.tick(5 * MS), Ok(true));
     assert_eq!(queue.lateness_bound(), 7_000_000);
     assert_eq!(queue.lateness_bound_of(1), Ok(7_000_000));
+    // three tasks of the weight 1024 take three nanoseconds for a unit
+    assert_eq!(queue.lateness_bound_in_time(), Ok(21_000_000));
     assert_eq!(queue.pick(), Some(1));
     assert_eq!(queue.tick(3 * MS), Ok(true));
     assert_eq!(queue.lateness_bound(), 7_000_000);

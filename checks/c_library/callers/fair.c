@@ -206,7 +206,7 @@ static struct call drawn_call(void)
 
 /* What the bounds say of all and of each. */
 struct said {
-	int64_t of_all, of[TASKS], answer[TASKS];
+	int64_t of_all, in_time, of[TASKS], answer[TASKS];
 };
 
 static struct said said_now(void)
@@ -215,6 +215,7 @@ static struct said said_now(void)
 
 	memset(&said, 0, sizeof said);
 	said.of_all = eevdf_fair_lateness_bound(&room.bounds, &fair.queue);
+	failed += eevdf_fair_lateness_bound_in_time(&room.bounds, &fair.queue, &said.in_time) != 0;
 	for (uint64_t task = 0; task < TASKS; task++)
 		said.answer[task] = eevdf_fair_lateness_bound_of(&room.bounds, &fair.queue, task, &said.of[task]);
 	return said;
@@ -244,6 +245,9 @@ static int64_t look_at_lateness(const struct said *said, const struct state *sta
 		latest = late > latest ? late : latest;
 	}
 	failed += state->len == 0 && said->of_all != 0;
+	/* so many nanoseconds take the virtual time so far, and one less doesn't */
+	failed += (wide)said->in_time * 1024 < (wide)said->of_all * load;
+	failed += said->in_time > 0 && ((wide)said->in_time - 1) * 1024 >= (wide)said->of_all * load;
 	return latest;
 }
 

@@ -179,6 +179,7 @@ static inline void turn_beside_bounds(void)
 	eevdf_take(&queue, &hand, task);
 	eevdf_fair_put(&bounds, &queue, &hand);
 	eevdf_fair_lateness_bound(&bounds, &queue);
+	eevdf_fair_lateness_bound_in_time(&bounds, &queue, &number);
 	eevdf_fair_lateness_bound_of(&bounds, &queue, task, &number);
 	eevdf_fair_share_tick(&shares, &bounds, &queue, 1 + drawn(3000000));
 	eevdf_fair_share_bound(&shares, &queue, task, &mark, &number);

@@ -8,6 +8,7 @@ pub mod Renice
 pub mod SetSlice
 pub mod Attributes
 pub mod Admit
+pub mod LatenessInTime
 pub mod Leaving
 pub mod Hands
 pub mod Pulls

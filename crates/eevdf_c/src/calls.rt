@@ -12,4 +12,5 @@ pub mod leaving;
 pub mod pulling;
 pub mod reading;
 pub mod shares;
+pub mod times;
 pub mod turns;

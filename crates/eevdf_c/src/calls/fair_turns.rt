@@ -68,12 +68,10 @@ pub fn tick(bounds: &mut FairBounds, opened: &mut Opened, ns: u64) -> i64
         return INVALID;
     };
     every_queue(&opened.queue);
-    // after a tick that ends a request the entry would have to be searched for
-    let runner = opened.queue.running_entry();
-    let code = turns::tick(opened, ns);
+    let tick = turns::tick_from(opened, length);
     every_queue(&opened.queue);
-    charge(bounds, code, length, runner);
-    code
+    charge(bounds, tick.code, length, tick.before);
+    tick.code
 }
 
 /// Makes bounds those after a tick that was answered so, with the entry that whoever runs had before it. An error leaves them.

@@ -10,11 +10,11 @@ ghost use Rattle.eevdf_fair_queue.specs.Owed.{no_share};
 ghost use Rattle.eevdf_c.specs.Codes.{done};
 ghost use Rattle.eevdf_c.specs.Errors.{KeepsOnError};
 ghost use Rattle.eevdf_c.specs.Fair as fairs;
-ghost use Rattle.eevdf_c.specs.Found.{found_or};
 ghost use Rattle.eevdf_c.specs.Shares as shares_out;
 ghost use Rattle.eevdf_c.specs.Tick as ticks;
 
 use crate::calls::fair_turns;
+use crate::calls::times::tell;
 use crate::codes::{ABSENT, DONE, INVALID, RANGE};
 use crate::fair_bounds::FairBounds;
 use crate::fair_shares::FairShares;
@@ -123,20 +123,5 @@ pub fn bound(
     {
         Some(found) => tell(found, ns),
         None => RANGE,
-    }
-}
-
-/// Writes a number where 64 bits with a sign have it.
-fn tell(found: u128, ns: &mut i64) -> i64
-    ensures answer { result ≡ shares_out.told_code (shares_out.checked_time found) }
-    ensures told { ns.new ≡ found_or ns.old (shares_out.checked_time found) }
-    ensures whole { result ≡ done → unsigned_abs ns.new ≡ found }
-{
-    match i64::try_from(found) {
-        Ok(found) => {
-            *ns = found;
-            DONE
-        }
-        Err(_) => RANGE,
     }
 }

@@ -3,6 +3,7 @@
 ghost use Rattle.std.specs.Prelude.{◌≡◌, ◌<ℤ◌, ◌↔◌, ℕ, pos, Some, None};
 ghost use Rattle.std.specs.FinMap as map;
 ghost use Rattle.eevdf_queue.specs.{Pick.IsPick, TimeToResched.IsShortest};
+ghost use Rattle.eevdf_queue.specs.Tick as queue_ticks;
 ghost use Rattle.eevdf_c.specs.Codes.{absent};
 ghost use Rattle.eevdf_c.specs.Errors.{KeepsOnError};
 ghost use Rattle.eevdf_c.specs.Turns as turns;
@@ -12,8 +13,15 @@ ghost use Rattle.eevdf_c.specs.Yield as yields;
 
 use crate::codes::{ABSENT, DONE, INVALID, RANGE, TIME_TO_PICK};
 use crate::opened::Opened;
-use eevdf_queue::{TaskId, TickAnswer, YieldAnswer};
+use eevdf_queue::{Entry, TaskId, TickAnswer, YieldAnswer};
 use eevdf_weight::Ns;
+
+/// What a charge is answered with, and the entry that whoever ran had before it.
+#[derive(Clone, Copy)]
+pub struct TickCode {
+    pub code: i64,
+    pub before: Option<Entry>,
+}
 
 /// The number of a task, and `ABSENT` where there is none.
 pub fn task_or_absent(task: Option<TaskId>) -> i64
@@ -80,6 +88,20 @@ pub fn tick(opened: &mut Opened, ns: u64) -> i64
     match Ns::new(ns) {
         Some(ns) => tick_code(opened.queue.tick(ns)),
         None => INVALID,
+    }
+}
+
+/// Charges the running task, and tells besides the entry that it had before.
+pub fn tick_from(opened: &mut Opened, ns: Ns) -> TickCode
+    ensures code { result.code ≡ ticks.tick_code (queue_ticks.tick opened.old ns).0 }
+    ensures before { result.before ≡ queue_ticks.running_entry opened.old }
+    ensures after { opened.new ≡ (queue_ticks.tick opened.old ns).1 }
+    ensures kept { KeepsOnError result.code opened.old opened.new }
+{
+    let tick = opened.queue.tick_from(ns);
+    TickCode {
+        code: tick_code(tick.answer),
+        before: tick.before,
     }
 }
 
