@@ -7,3 +7,4 @@ pub mod Reports
 pub mod Runs
 pub mod ProgramWords
 pub mod RefusedDeeds
+pub mod Engine

@@ -1,10 +1,10 @@
 //! From the bytes of a workload to the bytes of its report.
 
-ghost use Rattle.std.specs.Prelude.{◌≡◌, ◌≢◌, true, false, IfOk, IfErr, IfSome, OnOk, Err, take};
+ghost use Rattle.std.specs.Prelude.{◌≡◌, ◌≢◌, false, IfOk, IfSome, OnOk, Err, take};
+ghost use Rattle.eevdf_bench.specs.Engine.{CarriesOut};
 ghost use Rattle.eevdf_bench.specs.RefusedDeeds.{refused_of, refused_of_text};
-ghost use Rattle.eevdf_bench.specs.Reports.{IsReport, IsReportOf, WritesReport};
-ghost use Rattle.eevdf_bench.specs.Runs.{Answers, Begins, IsAnswer, IsAnswerOf, Refuses, Writes};
-ghost use Rattle.eevdf_bench.specs.Streams.{ReadsTo, ReadsWithin};
+ghost use Rattle.eevdf_bench.specs.Reports.{IsReport, IsReportOf};
+ghost use Rattle.eevdf_bench.specs.Runs.{Answers, IsAnswer, IsAnswerOf};
 ghost use Rattle.eevdf_workload.specs.Meaning.{read_limit};
 
 use crate::byte_streams::{read_input, write_text};
@@ -45,26 +45,9 @@ pub fn engine<T: Threads + Wait + Sync, R: Read, W: Write>(
 ) -> Result<(), BenchFault>
     requires reader { reader.old.failed ≡ false }
     requires writer { writer.old.failed ≡ false }
-    ensures report { OnOk result (IfSome (R.remaining reader.old.end) (λ input.
-        Writes (IsAnswerOf command input) (W.contents writer.old.end) (W.contents writer.new.end))) }
-    ensures one_thread { OnOk result (IfSome (R.remaining reader.old.end) (λ input.
-        WritesReport command input (W.contents writer.old.end) (W.contents writer.new.end))) }
-    ensures refused { IfErr result (λ f. IfSome (R.remaining reader.old.end) (λ input.
-        Refuses (IsAnswerOf command input) f)) }
-    ensures thread { result ≡ Err (BenchFault.Run RunFault.Start) → command.kind ≡ Kind.Run }
-    ensures begun { result ≡ Err BenchFault.Write → IfSome (R.remaining reader.old.end) (λ input.
-        Begins (IsAnswerOf command input) writer.new.flush_failed (W.contents writer.old.end) (W.contents writer.new.end)) }
-    ensures consumed { result ≢ Err BenchFault.Read → result ≢ Err BenchFault.Memory →
-        ReadsTo read_limit (R.remaining reader.old.end) (R.remaining reader.new.end) }
-    ensures limit { ReadsWithin read_limit
-        (R.remaining reader.old.end) (R.remaining reader.new.end) }
-    ensures read_whole { OnOk result (reader.new.failed ≡ false) }
-    ensures written_whole { OnOk result (writer.new.failed ≡ false) }
-    ensures flushed { OnOk result (writer.new.flushed ≡ true) }
-    ensures read { result ≡ Err BenchFault.Read → reader.new.failed ≡ true }
-    ensures unfailed { IfErr result (λ f. f ≢ BenchFault.Read → reader.new.failed ≡ false) }
-    ensures write { result ≡ Err BenchFault.Write → writer.new.failed ≡ true }
-    ensures unwritten { IfErr result (λ f. f ≢ BenchFault.Write → writer.new ≡ writer.old) }
+    ensures carries_out { CarriesOut command result
+        (R.remaining reader.old.end) (R.remaining reader.new.end)
+        (W.contents writer.old.end) (W.contents writer.new.end) reader.new writer.old writer.new }
 {
     let mut input = WorkloadText::new(alloc);
     engine_with_input(rt, alloc, reader, writer, command, &mut input)
@@ -82,26 +65,9 @@ pub fn engine_with_input<T: Threads + Wait + Sync, R: Read, W: Write>(
 ) -> Result<(), BenchFault>
     requires reader { reader.old.failed ≡ false }
     requires writer { writer.old.failed ≡ false }
-    ensures report { OnOk result (IfSome (R.remaining reader.old.end) (λ input.
-        Writes (IsAnswerOf command input) (W.contents writer.old.end) (W.contents writer.new.end))) }
-    ensures one_thread { OnOk result (IfSome (R.remaining reader.old.end) (λ input.
-        WritesReport command input (W.contents writer.old.end) (W.contents writer.new.end))) }
-    ensures refused { IfErr result (λ f. IfSome (R.remaining reader.old.end) (λ input.
-        Refuses (IsAnswerOf command input) f)) }
-    ensures thread { result ≡ Err (BenchFault.Run RunFault.Start) → command.kind ≡ Kind.Run }
-    ensures begun { result ≡ Err BenchFault.Write → IfSome (R.remaining reader.old.end) (λ input.
-        Begins (IsAnswerOf command input) writer.new.flush_failed (W.contents writer.old.end) (W.contents writer.new.end)) }
-    ensures consumed { result ≢ Err BenchFault.Read → result ≢ Err BenchFault.Memory →
-        ReadsTo read_limit (R.remaining reader.old.end) (R.remaining reader.new.end) }
-    ensures limit { ReadsWithin read_limit
-        (R.remaining reader.old.end) (R.remaining reader.new.end) }
-    ensures read_whole { OnOk result (reader.new.failed ≡ false) }
-    ensures written_whole { OnOk result (writer.new.failed ≡ false) }
-    ensures flushed { OnOk result (writer.new.flushed ≡ true) }
-    ensures read { result ≡ Err BenchFault.Read → reader.new.failed ≡ true }
-    ensures unfailed { IfErr result (λ f. f ≢ BenchFault.Read → reader.new.failed ≡ false) }
-    ensures write { result ≡ Err BenchFault.Write → writer.new.failed ≡ true }
-    ensures unwritten { IfErr result (λ f. f ≢ BenchFault.Write → writer.new ≡ writer.old) }
+    ensures carries_out { CarriesOut command result
+        (R.remaining reader.old.end) (R.remaining reader.new.end)
+        (W.contents writer.old.end) (W.contents writer.new.end) reader.new writer.old writer.new }
     ensures kept { result ≢ Err BenchFault.Read → result ≢ Err BenchFault.Memory →
         IfSome (R.remaining reader.old.end) (λ all. input.new.bytes.items ≡ take read_limit all) }
     ensures noted { OnOk result (command.kind ≡ Kind.Solo →
