@@ -70,10 +70,9 @@ fn drawn_program(
 }
 
 fn even_operation(shape: &Shape, cpu: CpuId, draws: &mut Draws) -> Op {
-    match draws.below(100) {
-        0..28 => Op::Pick,
-        28..52 => Op::Tick(draws.tick()),
-        52..57 => Op::Yield,
+    let kind = draws.below(100);
+    match kind {
+        0..57 => pick_tick_or_yield(kind, 28, 52, draws),
         57..70 => Op::Sleep(sleeper(shape, cpu, draws)),
         70..82 => pull(shape, cpu, draws),
         82..92 => Op::Post(sleeper(shape, cpu, draws)),
@@ -91,13 +90,23 @@ fn uneven_operation(shape: &Shape, cpu: CpuId, draws: &mut Draws) -> Op {
 }
 
 fn apart_operation(shape: &Shape, cpu: CpuId, draws: &mut Draws) -> Op {
-    match draws.below(16) {
-        0..6 => Op::Pick,
-        6..11 => Op::Tick(draws.tick()),
-        11 => Op::Yield,
+    let kind = draws.below(16);
+    match kind {
+        0..12 => pick_tick_or_yield(kind, 6, 11, draws),
         12 => Op::Post(first_task_at(shape, cpu, draws)),
         13 => Op::Drain,
         _ => Op::Sleep(first_task_at(shape, cpu, draws)),
+    }
+}
+
+/// A pick for a kind below `ticks`, a tick for one below `yields`, and else a yield.
+fn pick_tick_or_yield(kind: u64, ticks: u64, yields: u64, draws: &mut Draws) -> Op {
+    if kind < ticks {
+        Op::Pick
+    } else if kind < yields {
+        Op::Tick(draws.tick())
+    } else {
+        Op::Yield
     }
 }
 

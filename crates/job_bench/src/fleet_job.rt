@@ -95,7 +95,7 @@ fn worked<N: Names + Send + Sync, R: Threads + Wait + Sync>(
     let threads = thread::map_vec(
         rt,
         threads,
-        &move |own| { work::<Seat<N>, R>(rt, fleet, operations, own) },
+        &move |own| { work::<N, R>(rt, fleet, operations, own) },
     )?;
     Ok(threads)
 }
@@ -184,9 +184,9 @@ fn program_run<R: Threads + Wait + Sync>(
 ) -> Result<(), JobFault> {
     let tasks = drawn_tasks(run.alloc, shape, &mut run.draws)?;
     let programs = drawn_programs(run.alloc, shape, Programs::Apart, average, &mut run.draws)?;
-    let mut text = Vec::new(run.alloc);
+    let mut text = String::new(run.alloc);
     push_version(&mut text, false)?;
     push_programs(&mut text, &programs)?;
     push_tasks(&mut text, &tasks)?;
-    take_report(run, &text, Kind::Run)
+    take_report(run, text.as_bytes(), Kind::Run)
 }

@@ -1,17 +1,13 @@
 //! What a thread does with the seats of a fleet that keeps no history.
 
-ghost use Rattle.std.specs.Prelude.{◌≡◌, IfOk, true};
-ghost use Rattle.eevdf_fleet.specs.Fleets.{setup_of};
-ghost use Rattle.eevdf_ops.specs.Setup.{homes_of, is_task};
-
 use crate::digest::Digest;
 use crate::drawn_deeds::{drawn_task, other_cpu};
 use crate::drawn_machine::Shape;
 use crate::drawn_programs::task_at;
 use crate::job_fault::JobFault;
 use drawn_values::Draws;
-use eevdf_fleet::Names;
 use eevdf_fleet::endless::{Fleet, Seat};
+use eevdf_fleet::{Names, Operated, Refused};
 use eevdf_ops::{Answer, CpuId, Op};
 use eevdf_queue::TaskId;
 use std::sync::Wait;
@@ -27,24 +23,6 @@ pub enum Mix {
     Pulls,
     /// Wakes are posted to one CPU.
     OneHome,
-}
-
-/// A seat of a fleet.
-pub trait OperatedSeat {
-    /// The fleet that the seat is of.
-    type Fleet;
-
-    /// The seat's CPU.
-    fn own_cpu(&self) -> CpuId;
-
-    /// Does an operation of the seat's CPU, and takes in what comes of it.
-    fn operate<R: Wait>(
-        &mut self,
-        rt: &R,
-        fleet: &Self::Fleet,
-        operation: Op,
-        digest: &mut Digest,
-    ) -> Result<Option<Answer>, JobFault>;
 }
 
 /// A seat with the task that runs on its CPU. The unused bytes keep it off the cache lines of the seats of another thread.
@@ -85,12 +63,12 @@ pub struct FleetThread<S: Drop> {
 }
 
 /// Does so many operations of each seat by turns.
-pub fn work<S: OperatedSeat + Drop, R: Wait>(
+pub fn work<N: Names, R: Wait>(
     rt: &R,
-    fleet: &S::Fleet,
+    fleet: &Fleet<N>,
     operations: u64,
-    mut own: FleetThread<S>,
-) -> FleetThread<S> {
+    mut own: FleetThread<Seat<N>>,
+) -> FleetThread<Seat<N>> {
     for number in 0..operations {
         if let Err(fault) = step(rt, fleet, &mut own, number) {
             own.fault = Some(fault);
@@ -101,10 +79,10 @@ pub fn work<S: OperatedSeat + Drop, R: Wait>(
 
 /// Does the operation of this number, of the seats in turn.
 #[inline(always)]
-fn step<S: OperatedSeat + Drop, R: Wait>(
+fn step<N: Names, R: Wait>(
     rt: &R,
-    fleet: &S::Fleet,
-    own: &mut FleetThread<S>,
+    fleet: &Fleet<N>,
+    own: &mut FleetThread<Seat<N>>,
     number: u64,
 ) -> Result<(), JobFault> {
     let count = own.seats.len() as u64;
@@ -112,12 +90,37 @@ fn step<S: OperatedSeat + Drop, R: Wait>(
         return Err(JobFault::Seats);
     }
     let held = &mut own.seats[(number % count) as usize];
-    let operation = own.drawn.next(held.seat.own_cpu(), held.running);
-    let answer = held.seat.operate(rt, fleet, operation, &mut own.digest)?;
+    let operation = own.drawn.next(held.seat.cpu(), held.running);
+    let answer = operate(rt, fleet, &mut held.seat, operation, &mut own.digest)?;
     if let Some(answer) = answer {
         held.running = running_after(held.running, answer);
     }
     Ok(())
+}
+
+/// Does an operation of the seat's CPU, and takes in what comes of it.
+#[inline(always)]
+fn operate<N: Names, R: Wait>(
+    rt: &R,
+    fleet: &Fleet<N>,
+    seat: &mut Seat<N>,
+    operation: Op,
+    digest: &mut Digest,
+) -> Result<Option<Answer>, JobFault> {
+    match fleet.try_operate(rt, seat, operation) {
+        Ok(Operated::Answer(answer)) => {
+            digest.add_answer(&answer);
+            return Ok(Some(answer));
+        }
+        Ok(Operated::Posted) => digest.add(1),
+        Err(Refused::RingFull(full)) => digest.add(2 + full.task.get()),
+        Ok(Operated::Drained(drained)) => {
+            digest.add(drained.taken as u64);
+            digest.add(drained.woken as u64);
+        }
+        Err(_) => return Err(JobFault::Machine),
+    }
+    Ok(None)
 }
 
 /// The task that runs on a CPU after an answer.
@@ -214,76 +217,5 @@ fn turn(kind: u64, draws: &mut Draws) -> Op {
         Op::Pick
     } else {
         Op::Tick(draws.tick())
-    }
-}
-
-impl<N: Names> OperatedSeat for Seat<N> {
-    type Fleet = Fleet<N>;
-
-    #[inline(always)]
-    fn own_cpu(&self) -> CpuId {
-        self.cpu()
-    }
-
-    #[inline(always)]
-    fn operate<R: Wait>(
-        &mut self,
-        rt: &R,
-        fleet: &Fleet<N>,
-        operation: Op,
-        digest: &mut Digest,
-    ) -> Result<Option<Answer>, JobFault> {
-        let answer = match operation {
-            Op::Tick(ns) => fleet.tick(rt, self, ns),
-            Op::Pick => fleet.pick(rt, self),
-            Op::Yield => fleet.yield_now(rt, self),
-            Op::Renice(task, nice) => fleet.renice(rt, self, known_task(fleet, task)?, nice),
-            Op::Sleep(task) => fleet.sleep(rt, self, known_task(fleet, task)?),
-            Op::Doze(task) => fleet.doze(rt, self, known_task(fleet, task)?),
-            Op::Pull(source) => {
-                if !fleet.has_cpu(source) || source == self.cpu() {
-                    return Err(JobFault::Machine);
-                }
-                fleet.pull(rt, self, source)
-            }
-            Op::Begin(task, nice, slice) => {
-                if !fleet.is_at_home(task, self.cpu()) {
-                    return Err(JobFault::Machine);
-                }
-                fleet.begin(rt, self, task, nice, slice)
-            }
-            Op::End(task) => fleet.end(rt, self, known_task(fleet, task)?),
-            Op::Set(task, nice, slice) => {
-                fleet.set(rt, self, known_task(fleet, task)?, nice, slice)
-            }
-            Op::Rebase => fleet.rebase(rt, self),
-            Op::Post(task) => {
-                digest.add(match self.post(known_task(fleet, task)?) {
-                    Ok(()) => 1,
-                    Err(full) => 2 + full.task.get(),
-                });
-                return Ok(None);
-            }
-            Op::Drain => {
-                let drained = fleet.drain(rt, self);
-                digest.add(drained.taken as u64);
-                digest.add(drained.woken as u64);
-                return Ok(None);
-            }
-        };
-        digest.add_answer(&answer);
-        Ok(Some(answer))
-    }
-}
-
-/// The task, where the setup has it.
-#[inline(always)]
-fn known_task<N: Names>(fleet: &Fleet<N>, task: TaskId) -> Result<TaskId, JobFault>
-    ensures { IfOk result (λ known. is_task (homes_of (setup_of N.kit)) known ≡ true) }
-{
-    if fleet.has_task(task) {
-        Ok(task)
-    } else {
-        Err(JobFault::Machine)
     }
 }

@@ -50,7 +50,7 @@ fn played_script<R: Threads + Wait + Sync>(
     let tasks = drawn_tasks(run.alloc, shape, &mut run.draws)?;
     let setup = setup_without_programs(run.alloc, shape, &tasks)?;
     let mut machine = PlayedMachine::open(run.alloc, &setup)?;
-    let mut text = Vec::new(run.alloc);
+    let mut text = String::new(run.alloc);
     begin_script(&mut text, true, shape.cpus)?;
     for _deed in 0..run.size {
         let cpu = drawn_cpu(shape, &mut run.draws);
@@ -60,5 +60,5 @@ fn played_script<R: Threads + Wait + Sync>(
     }
     end_script(&mut text, &tasks)?;
     run.digest.add_queues(&machine.into_queues());
-    take_report(run, &text, Kind::Solo)
+    take_report(run, text.as_bytes(), Kind::Solo)
 }

@@ -54,12 +54,12 @@ fn short_replay<R: Threads + Wait + Sync>(
 ) -> Result<(), JobFault> {
     let tasks = drawn_tasks(run.alloc, shape, &mut run.draws)?;
     let programs = drawn_programs(run.alloc, shape, Programs::Picks, 1, &mut run.draws)?;
-    let mut text = Vec::new(run.alloc);
+    let mut text = String::new(run.alloc);
     push_version(&mut text, true)?;
     push_order(&mut text, &one_by_one(run.alloc, shape)?)?;
     push_programs(&mut text, &programs)?;
     push_tasks(&mut text, &tasks)?;
-    take_report(run, &text, Kind::Replay)
+    take_report(run, text.as_bytes(), Kind::Replay)
 }
 
 /// Each caller four times: the steps of a pick.

@@ -36,7 +36,7 @@ pub fn order_job<R: Threads + Wait + Sync>(run: &mut JobRun<'_, R>) -> Result<()
         return play(alloc, &shape, &setup, &mut run.draws, &mut run.digest);
     }
     let text = order_text(alloc, &shape, &tasks, &programs)?;
-    take_report(run, &text, Kind::Replay)
+    take_report(run, text.as_bytes(), Kind::Replay)
 }
 
 fn shape_of(kind: u64) -> Shape {
@@ -58,9 +58,9 @@ fn order_text(
     shape: &Shape,
     tasks: &[TaskSpec],
     programs: &[Vec<Op>],
-) -> Result<Vec<u8>, AllocError> {
+) -> Result<String, AllocError> {
     let order = mixed_order(alloc, shape, programs)?;
-    let mut text = Vec::new(alloc);
+    let mut text = String::new(alloc);
     push_version(&mut text, 16 < shape.cpus)?;
     push_order(&mut text, &order)?;
     push_programs(&mut text, programs)?;

@@ -46,7 +46,7 @@ pub fn script_run<R: Threads + Wait + Sync>(
     size: u64,
 ) -> Result<(), JobFault> {
     let tasks = drawn_tasks(run.alloc, shape, &mut run.draws)?;
-    let mut text = Vec::new(run.alloc);
+    let mut text = String::new(run.alloc);
     begin_script(&mut text, deeds == Deeds::Mixed, shape.cpus)?;
     for _deed in 0..size {
         let cpu = drawn_cpu(shape, &mut run.draws);
@@ -54,5 +54,5 @@ pub fn script_run<R: Threads + Wait + Sync>(
         push_deed(&mut text, &deed)?;
     }
     end_script(&mut text, &tasks)?;
-    take_report(run, &text, Kind::Solo)
+    take_report(run, text.as_bytes(), Kind::Solo)
 }
