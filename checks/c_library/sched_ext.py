@@ -7,7 +7,6 @@ import re
 import shutil
 from concurrent.futures import ThreadPoolExecutor
 from dataclasses import dataclass, field, replace
-from functools import partial
 
 from tools import TOP, fault_of, run
 
@@ -114,27 +113,42 @@ def what_it_says(tools, machine, made):
     return "" if made.returncode else made.stdout
 
 
+def replay(booted, *words):
+    """What replay.py says once the machine has come to a good end. None where it hasn't."""
+    return None if booted.result().returncode else run([FOLDER / "replay.py", *words])
+
+
 def check_one(tools, said):
     tools.checks.look(f"{ONE.name}: shares within 1 % of the weights", share_fault(said, 1))
 
 
-def check_two(tools, said, trace):
+def check_two(tools, said, again, changed):
     tools.checks.look(f"{TWO.name}: shares within 2 % of the weights", share_fault(said, 2))
     tools.checks.look(f"{TWO.name}: the hunt ends under the scheduler", hunts_fault(said, "queues"))
-    check_trace(tools, trace)
+    last = again.stdout.strip().splitlines()
+    tools.checks.look("examples/sched_ext: each call is answered as by the model", fault_of(again) or calls_fault(again.stdout),
+                      last[-1] if last else "")
+    tools.checks.look("examples/sched_ext: changes of the trace are noticed", fault_of(changed) or unnoticed(changed.stdout))
 
 
 def check_four(tools, said):
     tools.checks.look(f"{FOUR.name}: a task whose CPUs change isn't dispatched where it may not run", look_fault(said))
 
 
-def check_trace(tools, trace):
-    again = run([FOLDER / "replay.py", trace])
-    said = again.stdout.strip().splitlines()
-    tools.checks.look("examples/sched_ext: each call is answered as by the model", fault_of(again) or calls_fault(again.stdout),
-                      said[-1] if said else "")
-    changed = run([FOLDER / "replay.py", "--plant", trace, PLANTED])
-    tools.checks.look("examples/sched_ext: changes of the trace are noticed", fault_of(changed) or unnoticed(changed.stdout))
+def check_machines(tools, folder, initramfs):
+    """Where time is counted by instructions a machine takes one processor, so all run at once, and the replays as soon as there is a
+    trace."""
+    trace = tools.work / "sched_ext.trace"
+    traced = replace(TWO, more={"TRACE": str(trace), "WORDS": "rebase_ms=500"})
+    with ThreadPoolExecutor() as pool:
+        one, two, four = (pool.submit(boot, tools, folder, initramfs, machine) for machine in (ONE, traced, FOUR))
+        again, changed = pool.submit(replay, two, trace), pool.submit(replay, two, "--plant", trace, PLANTED)
+        if said := what_it_says(tools, ONE, one.result()):
+            check_one(tools, said)
+        if said := what_it_says(tools, traced, two.result()):
+            check_two(tools, said, again.result(), changed.result())
+        if said := what_it_says(tools, FOUR, four.result()):
+            check_four(tools, said)
 
 
 def check(tools):
@@ -147,15 +161,5 @@ def check(tools):
         if not shutil.which(tool):
             tools.checks.skip("examples/sched_ext", tool, package)
             return
-    initramfs = build(tools, folder)
-    if not initramfs:
-        return
-    trace = tools.work / "sched_ext.trace"
-    traced = replace(TWO, more={"TRACE": str(trace), "WORDS": "rebase_ms=500"})
-    looks = ((ONE, check_one), (traced, partial(check_two, trace=trace)), (FOUR, check_four))
-    # where time is counted by instructions a machine takes one processor, so all run at once
-    with ThreadPoolExecutor() as pool:
-        runs = [pool.submit(boot, tools, folder, initramfs, machine) for machine, _ in looks]
-        for (machine, look), made in zip(looks, runs):
-            if said := what_it_says(tools, machine, made.result()):
-                look(tools, said)
+    if initramfs := build(tools, folder):
+        check_machines(tools, folder, initramfs)

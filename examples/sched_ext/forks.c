@@ -1,6 +1,6 @@
 /*
- * forks.c: tasks begin, end, and go to another class of Linux's. Each belongs to a queue that has
- * room for it from its fork on, so that it finds a number there whenever it comes.
+ * forks.c: tasks begin and end. Each belongs to a queue that has room for it from its fork on, so
+ * that it finds a number there whenever it comes.
  */
 #include "scheduler.h"
 
@@ -22,12 +22,14 @@ static bool join_with_room(struct cpu_queue *queue, struct task *task)
 
 s64 begin(struct task_struct *linux_task)
 {
+	/* a task that was there before may run, and Linux change this meanwhile */
+	const struct cpumask *cpus = READ_ONCE(linux_task->cpus_ptr);
 	struct task *task = begin_task(linux_task);
 	int cpu;
 
 	if (!task)
 		return -EAGAIN;
-	for_each_cpu_wrap(cpu, linux_task->cpus_ptr, task_cpu(linux_task))
+	for_each_cpu_wrap(cpu, cpus, task_cpu(linux_task))
 		if (join_with_room(queue_of(cpu), task))
 			return 0;
 	end_task(task, (eevdf_block){ NULL });
@@ -65,20 +67,6 @@ void end(struct task_struct *linux_task)
 	WRITE_ONCE(task->home, NOWHERE);
 	unlock_queue(queue);
 	end_task(task, block);
-}
-
-void leave(struct task_struct *linux_task)
-{
-	struct task *task = task_of(linux_task);
-	struct cpu_queue *queue;
-	eevdf_block block;
-
-	if (!task || is_planted(5))
-		return;
-	queue = lock_home(task);
-	block = take_out(queue, task);
-	unlock_queue(queue);
-	give_block(block);
 }
 
 int place(struct task_struct *linux_task, int cpu)

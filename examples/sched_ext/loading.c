@@ -94,6 +94,12 @@ bool unload_plain(void)
 	return has_ended(5);
 }
 
+void let_go(void)
+{
+	if (scheduler)
+		close(bpf_link__fd(scheduler));
+}
+
 /* Programs of BPF that nobody has any more go some time later, and the module once they have. */
 bool unload(void)
 {

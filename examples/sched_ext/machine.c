@@ -98,6 +98,7 @@ pid_t fork_as(const char *name, int nice)
 	if (child == 0) {
 		prctl(PR_SET_NAME, name);
 		prctl(PR_SET_TIMERSLACK, 1ul);
+		let_go();
 		return 0;
 	}
 	setpriority(PRIO_PROCESS, 0, 0);

@@ -35,6 +35,8 @@ bool load(const char *words);
 bool is_loaded(void);
 const char *name_of_class(void);
 bool unload(void);
+/* In a child: Linux ends a scheduler only once nobody has it open any more. */
+void let_go(void);
 /* The same for a scheduler of Linux's own, without the module. */
 bool load_plain(void);
 bool unload_plain(void);

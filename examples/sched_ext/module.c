@@ -33,11 +33,6 @@ __bpf_kfunc void queues_end(struct task_struct *p)
 	end(p);
 }
 
-__bpf_kfunc void queues_leave(struct task_struct *p)
-{
-	leave(p);
-}
-
 __bpf_kfunc s32 queues_place(struct task_struct *p, s32 cpu)
 {
 	return place(p, cpu);
@@ -103,7 +98,6 @@ __bpf_kfunc_end_defs();
 BTF_KFUNCS_START(queues_ids)
 BTF_ID_FLAGS(func, queues_begin)
 BTF_ID_FLAGS(func, queues_end)
-BTF_ID_FLAGS(func, queues_leave)
 BTF_ID_FLAGS(func, queues_place)
 BTF_ID_FLAGS(func, queues_enqueue)
 BTF_ID_FLAGS(func, queues_take_back)

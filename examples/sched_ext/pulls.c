@@ -6,7 +6,6 @@
 #include "queues.h"
 
 #include <linux/module.h>
-#include <linux/timekeeping.h>
 
 static unsigned int balance_us = 20000;
 module_param(balance_us, uint, 0444);
@@ -170,7 +169,7 @@ struct cpu_queue *pull_for_idle(int cpu)
 struct cpu_queue *pull_for_balance(int cpu)
 {
 	struct cpu_queue *queue = queue_of(cpu), *from = most_loaded(BIT(cpu));
-	u64 now = ktime_get_mono_fast_ns();
+	u64 now = now_ns();
 
 	if (!from || !balance_us || now < balanced_at[cpu] + (u64)balance_us * NSEC_PER_USEC) {
 		lock_queue(queue);

@@ -50,13 +50,19 @@ void lock_two(struct cpu_queue *one, struct cpu_queue *other)
 		raw_spin_lock_nested(&(first == one ? other : one)->lock, SINGLE_DEPTH_NESTING);
 }
 
+/* Linux 6.12 reads this clock from a latch, and doesn't tell KCSAN of that. */
+u64 now_ns(void)
+{
+	return data_race(ktime_get_mono_fast_ns());
+}
+
 /*
  * Charges whoever is on the CPU for the time since it was last charged. More than a second is
  * charged in several ticks, and no time in none.
  */
 s64 charge(struct cpu_queue *queue)
 {
-	u64 now = ktime_get_mono_fast_ns();
+	u64 now = now_ns();
 	u64 left = now > queue->since ? now - queue->since : 0;
 	s64 answer = 0;
 
@@ -123,7 +129,7 @@ s64 put_to_sleep(struct cpu_queue *queue, struct task *task, bool falls_asleep)
 
 void rebase_in_time(struct cpu_queue *queue)
 {
-	u64 now = ktime_get_mono_fast_ns();
+	u64 now = now_ns();
 
 	if (now < queue->rebased + (u64)rebase_ms * NSEC_PER_MSEC)
 		return;
@@ -155,11 +161,10 @@ void set_timer(struct cpu_queue *queue)
 		hrtimer_start(&queue->timer, ns_to_ktime(ns), HRTIMER_MODE_REL_PINNED_HARD);
 }
 
-/* Has Linux ask for a pick as soon as the interrupt ends. The task is this CPU's own. */
-static void end_turn(struct task_struct *linux_task)
+/* Has Linux schedule as soon as the interrupt ends, and so ask for a pick. */
+static void end_turn(void)
 {
-	WRITE_ONCE(linux_task->scx.slice, 0);
-	set_tsk_need_resched(linux_task);
+	set_tsk_need_resched(current);
 	set_preempt_need_resched();
 }
 
@@ -171,7 +176,7 @@ static enum hrtimer_restart on_timer(struct hrtimer *timer)
 	if (queue->on_cpu && queue->on_cpu == current && queue->cpu == smp_processor_id()) {
 		charge(queue);
 		if (queue->is_due)
-			end_turn(queue->on_cpu);
+			end_turn();
 		else
 			set_timer(queue);
 	}
@@ -195,7 +200,7 @@ static void begin_queue(struct cpu_queue *queue, int cpu)
 
 	raw_spin_lock_init(&queue->lock);
 	queue->cpu = cpu;
-	queue->rebased = ktime_get_mono_fast_ns();
+	queue->rebased = now_ns();
 	INIT_LIST_HEAD(&queue->waiting);
 	begin_numbers(queue);
 	set_up_timer(&queue->timer);

@@ -48,6 +48,7 @@ void put_down(struct carried *carried, struct cpu_queue *queue);
 /* Somebody who belongs to the queue and isn't runnable there, or NULL. */
 struct task *who_can_go(struct cpu_queue *queue);
 
+u64 now_ns(void);
 /* The slice of each task. */
 u64 slice_ns(void);
 

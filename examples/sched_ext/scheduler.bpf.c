@@ -15,7 +15,6 @@ typedef __s32 s32;
 typedef __s64 s64;
 typedef __u64 u64;
 
-#define SLICE_INF (~0ull)
 #define LOCAL_QUEUE (1ull << 63 | 2)
 #define KICK_IDLE 1
 #define KICK_PREEMPT 2
@@ -47,7 +46,6 @@ struct sched_ext_ops {
 	void (*cpu_release)(s32 cpu, struct scx_cpu_release_args *args);
 	s32 (*init_task)(struct task_struct *p, struct scx_init_task_args *args);
 	void (*exit_task)(struct task_struct *p, struct scx_exit_task_args *args);
-	void (*disable)(struct task_struct *p);
 	u64 flags;
 	__u32 timeout_ms;
 	char name[128];
@@ -56,7 +54,6 @@ struct sched_ext_ops {
 /* The module's. */
 extern s64 queues_begin(struct task_struct *p) __ksym;
 extern void queues_end(struct task_struct *p) __ksym;
-extern void queues_leave(struct task_struct *p) __ksym;
 extern s32 queues_place(struct task_struct *p, s32 cpu) __ksym;
 extern s64 queues_enqueue(struct task_struct *p) __ksym;
 extern s64 queues_take_back(struct task_struct *p, bool falls_asleep) __ksym;
@@ -88,17 +85,9 @@ static void look_at(s64 answer)
 		scx_bpf_error_bstr(text, numbers, sizeof numbers);
 }
 
-/* A task wakes where it slept, and is pulled from there; a new one goes where the load is least. */
-SEC("struct_ops/select_cpu")
-s32 BPF_PROG(on_select_cpu, struct task_struct *p, s32 cpu, u64 flags)
+/* Does what the module answers: CPUs look for work, and one asks for a pick. */
+static __always_inline void tell(s64 told)
 {
-	return flags & WAKE_FORK ? queues_place(p, cpu) : cpu;
-}
-
-SEC("struct_ops/enqueue")
-void BPF_PROG(on_enqueue, struct task_struct *p, u64 flags)
-{
-	s64 told = queues_enqueue(p);
 	s32 cpu;
 
 	look_at(told);
@@ -109,6 +98,19 @@ void BPF_PROG(on_enqueue, struct task_struct *p, u64 flags)
 			scx_bpf_kick_cpu(cpu, KICK_IDLE);
 	if (told & PREEMPT)
 		scx_bpf_kick_cpu(told >> CPU_SHIFT & (MAX_CPUS - 1), KICK_PREEMPT);
+}
+
+/* A task wakes where it slept, and is pulled from there; a new one goes where the load is least. */
+SEC("struct_ops/select_cpu")
+s32 BPF_PROG(on_select_cpu, struct task_struct *p, s32 cpu, u64 flags)
+{
+	return flags & WAKE_FORK ? queues_place(p, cpu) : cpu;
+}
+
+SEC("struct_ops/enqueue")
+void BPF_PROG(on_enqueue, struct task_struct *p, u64 flags)
+{
+	tell(queues_enqueue(p));
 }
 
 SEC("struct_ops/dequeue")
@@ -138,7 +140,7 @@ void BPF_PROG(on_dispatch, s32 cpu, struct task_struct *before)
 				look_at(queues_go_on(cpu));
 			return;
 		}
-		put_into(p, LOCAL_QUEUE, SLICE_INF);
+		put_into(p, LOCAL_QUEUE, LINUX_SLICE);
 		is_confirmed = queues_confirm(cpu, p);
 		bpf_task_release(p);
 		if (is_confirmed)
@@ -158,7 +160,7 @@ void BPF_PROG(on_tick, struct task_struct *p)
 SEC("struct_ops/running")
 void BPF_PROG(on_running, struct task_struct *p)
 {
-	look_at(queues_start(p));
+	tell(queues_start(p));
 }
 
 SEC("struct_ops/stopping")
@@ -207,12 +209,6 @@ void BPF_PROG(on_exit_task, struct task_struct *p, struct scx_exit_task_args *ar
 	queues_end(p);
 }
 
-SEC("struct_ops/disable")
-void BPF_PROG(on_disable, struct task_struct *p)
-{
-	queues_leave(p);
-}
-
 SEC(".struct_ops.link")
 struct sched_ext_ops eevdf = {
 	.select_cpu = (void *)on_select_cpu,
@@ -228,7 +224,6 @@ struct sched_ext_ops eevdf = {
 	.cpu_release = (void *)on_cpu_release,
 	.init_task = (void *)on_init_task,
 	.exit_task = (void *)on_exit_task,
-	.disable = (void *)on_disable,
 	.flags = KEEP_EXITING,
 	.timeout_ms = WATCHDOG_MS,
 	.name = "eevdf",

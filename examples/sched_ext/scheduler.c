@@ -1,18 +1,17 @@
 /*
  * scheduler.c: what Linux tells of its tasks, as calls on the queues. A task is runnable in a queue
  * as long as Linux has left it to this scheduler, or it runs. Else it sleeps there: it has fallen
- * asleep, or Linux changes it or moves it, and has it back meanwhile.
+ * asleep, or Linux changes it or moves it, and has it back meanwhile, or it is of another class.
  */
 #include "scheduler.h"
 
 #include <linux/delay.h>
 #include <linux/module.h>
-#include <linux/timekeeping.h>
 
 /*
  * A planted fault: 1 loses tasks that are named "lost" as they wake, and 2 makes a call that has to
  * fail. 3 waits before and after the second look at a task that comes from another CPU, and 4 waits
- * and doesn't look. 5 keeps what tasks have that end, or go to another class of Linux's.
+ * and doesn't look. 5 keeps what tasks have that end.
  */
 static int planted;
 module_param(planted, int, 0644);
@@ -122,9 +121,9 @@ s64 take_back(struct task_struct *linux_task, bool falls_asleep)
 /* The task runs on the CPU from now on, and is the running one of the queue. */
 static void begin_turn(struct cpu_queue *queue, struct task_struct *linux_task)
 {
-	linux_task->scx.slice = SCX_SLICE_INF;	/* the queue's timer ends it */
+	linux_task->scx.slice = LINUX_SLICE;
 	queue->on_cpu = linux_task;
-	queue->since = ktime_get_mono_fast_ns();
+	queue->since = now_ns();
 	queue->is_due = false;
 	clear_bit(queue->cpu, &looking);
 	set_timer(queue);
@@ -162,19 +161,26 @@ static s64 run_beside(struct cpu_queue *home, struct task *task, int cpu)
 	return answer;
 }
 
-/* A task runs on this CPU from now on, whether it was picked or not. */
+/*
+ * A task runs on this CPU from now on, whether it was picked or not. One that wasn't goes on only
+ * until there is a pick, where that picks another: it may be changed again before its turn ends.
+ */
 static s64 run_here(struct task *task, int cpu)
 {
 	struct cpu_queue *queue = bring(task, cpu);
 	s64 answer = 0;
+	bool is_picked;
 
 	if (queue->cpu != cpu)
 		return run_beside(queue, task, cpu);
 	charge(queue);
 	is_taken_back(task);
-	if (call_running(queue) != task->number)
+	is_picked = call_running(queue) == task->number;
+	if (!is_picked)
 		answer = run_unpicked_one(queue, task);
 	begin_turn(queue, task->linux_task);
+	if (!is_picked && answer >= 0)
+		answer = whom_to_tell(queue);
 	unlock_queue(queue);
 	return answer;
 }
@@ -280,7 +286,7 @@ bool confirm(int cpu, struct task_struct *linux_task)
 	return is_confirmed || is_planted(4);
 }
 
-/* Linux's own tick is a net below the timer. */
+/* Linux's own tick is a net below the timer. It ends a turn where the slice is 0. */
 s64 tick(struct task_struct *linux_task)
 {
 	struct cpu_queue *queue = queue_of(task_cpu(linux_task));
@@ -289,9 +295,8 @@ s64 tick(struct task_struct *linux_task)
 	lock_queue(queue);
 	if (queue->on_cpu == linux_task) {
 		answer = charge(queue);
-		if (queue->is_due)
-			linux_task->scx.slice = 0;
-		else if (!hrtimer_active(&queue->timer))
+		linux_task->scx.slice = queue->is_due ? 0 : LINUX_SLICE;
+		if (!queue->is_due && !hrtimer_active(&queue->timer))
 			set_timer(queue);
 	}
 	unlock_queue(queue);

@@ -14,8 +14,6 @@
  */
 s64 begin(struct task_struct *linux_task);
 void end(struct task_struct *linux_task);
-/* A task goes to another class of Linux's: it is in no queue then, and belongs to one still. */
-void leave(struct task_struct *linux_task);
 
 /* The CPU where a task goes that was just forked: of those with room the one of least load. */
 int place(struct task_struct *linux_task, int cpu);
@@ -35,6 +33,7 @@ bool confirm(int cpu, struct task_struct *linux_task);
 /* Nobody could be dispatched: whoever ran goes on. */
 s64 go_on(int cpu);
 
+/* A task runs. Answers which CPUs have to be told, by the bits of common.h, or 0. */
 s64 start(struct task_struct *linux_task);
 s64 stop(struct task_struct *linux_task);
 s64 tick(struct task_struct *linux_task);

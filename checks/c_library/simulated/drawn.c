@@ -185,7 +185,6 @@ static void change_class(struct task_struct *task)
 		return;
 	}
 	go(task, false);
-	leave(task);
 	task->state = IS_OF_ANOTHER_CLASS;
 	if (ran)
 		schedule(task->cpu);

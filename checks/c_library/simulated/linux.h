@@ -30,6 +30,7 @@ typedef unsigned long long u64;
 #define READ_ONCE(value) (*(volatile __typeof__(value) *)&(value))
 #define WRITE_ONCE(value, other) (*(volatile __typeof__(value) *)&(value) = (other))
 #define smp_mb() ((void)0)
+#define data_race(value) (value)
 
 /* Lists. */
 struct list_head {
@@ -175,7 +176,6 @@ extern void *trace_memory;
 #define SCHED_IDLE 5
 #define SCX_TASK_QUEUED 1
 #define SCX_SLICE_DFL 20000000ull
-#define SCX_SLICE_INF ULLONG_MAX
 #define PRIO_TO_NICE(priority) ((priority) - 120)
 #define task_cpu(task) ((task)->cpu)
 #define set_tsk_need_resched(task) ((void)(task))
