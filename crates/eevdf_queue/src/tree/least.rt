@@ -1,4 +1,4 @@
-ghost use Rattle.std.specs.Prelude.{◌≡◌, [], ◌∷◌, pos, ◌≤ℤ◌, ◌<ℤ◌, true};
+ghost use Rattle.std.specs.Prelude.{◌≡◌, ◌≤◌, ◌^◌, [], ◌∷◌, pos, ◌≤ℤ◌, ◌<ℤ◌, true, unsigned_abs};
 ghost use Rattle.eevdf_queue.specs.TreeLeast.{least_of, lesser, AreLow};
 
 use crate::task::Task;
@@ -22,7 +22,7 @@ impl Least {
         ensures value { result ≡ least_of (task.now ∷ []) }
         ensures low { AreLow (task.now ∷ []) }
     {
-        is_bounded(task);
+        is_in_64_bits(task.entry.v);
         Least {
             runtime: task.entry.v,
         }
@@ -48,8 +48,7 @@ impl Least {
 }
 
 /// A virtual runtime is a number of 64 bits.
-fn is_bounded(task: &Task)
-    ensures { task.now.entry.v ≤ℤ pos 0x7fff_ffff_ffff_ffff }
-{
-    let _v = task.entry.v;
-}
+pub fn is_in_64_bits(v: i64)
+    ensures low { v ≤ℤ pos 0x7fff_ffff_ffff_ffff }
+    ensures near { unsigned_abs v ≤ 2 ^ 63 }
+{}

@@ -6,6 +6,7 @@ ghost use Rattle.eevdf_queue.specs.Numbers.{number_limit};
 
 use crate::entry::Entry;
 use crate::lag::product;
+use crate::tree::least::is_in_64_bits;
 use crate::tree::totals::Totals;
 use eevdf_weight::{weight, wide_product};
 
@@ -17,7 +18,7 @@ pub fn share(entry: &Entry) -> Totals
     ensures light { result.weight ≤ 88761 }
     ensures near { unsigned_abs result.moment ≤ 2 ^ 63 * result.weight }
 {
-    is_bounded(entry);
+    is_in_64_bits(entry.v);
     let weight = weight(entry.nice);
     Totals {
         weight,
@@ -124,11 +125,4 @@ fn difference(totals: &Totals, share: &Totals) -> i128
     ensures { totals.now.moment ≡ share.now.moment +ℤ result }
 {
     totals.moment - share.moment
-}
-
-/// A virtual runtime is a number of 64 bits.
-fn is_bounded(entry: &Entry)
-    ensures { unsigned_abs entry.now.v ≤ 2 ^ 63 }
-{
-    let _v = entry.v;
 }

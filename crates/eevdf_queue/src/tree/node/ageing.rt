@@ -1,6 +1,6 @@
 //! Tasks that age where they stand: the virtual runtime of one grows, and nothing else of it changes.
 
-ghost use Rattle.std.specs.Prelude.{◌≡◌, pos, ◌≤ℤ◌, length, IfSome};
+ghost use Rattle.std.specs.Prelude.{◌≡◌, ◌≤ℤ◌, length, IfSome};
 ghost use Rattle.eevdf_queue.specs.{TaskLists.find_task, TreeKeys.Holds, TreeKeys.IsAged, TreeLeast.least_of, TreeLeast.lesser, TreeShape.tasks_in, TreeShape.height_in};
 
 use super::TreeNode;
@@ -8,7 +8,7 @@ use super::mending::look_around;
 use crate::entry::Entry;
 use crate::task::Task;
 use crate::tree::key::TreeKey;
-use crate::tree::least::Least;
+use crate::tree::least::{Least, is_in_64_bits};
 
 /// The virtual runtime that a task had, and the one that it gets.
 #[derive(Clone, Copy)]
@@ -107,18 +107,11 @@ fn with_below(least: &Least, link: &Option<Box<TreeNode>>) -> Least
     ensures behind { result ≡ lesser least.now (least_of (tasks_in link.now)) }
     ensures before { result ≡ lesser (least_of (tasks_in link.now)) least.now }
 {
-    is_bounded(least);
+    is_in_64_bits(least.runtime);
     match link {
         None => *least,
         Some(node) => least.or(&node.least()),
     }
-}
-
-/// A virtual runtime is a number of 64 bits.
-fn is_bounded(least: &Least)
-    ensures { least.now.runtime ≤ℤ pos 0x7fff_ffff_ffff_ffff }
-{
-    let _runtime = least.runtime;
 }
 
 /// Gives a task its newer virtual runtime.
