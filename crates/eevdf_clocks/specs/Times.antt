@@ -1,9 +1,12 @@
 -- The time of each line of a history.
 use Rattle.std.specs.Prelude.{ℕ, ◌+◌, ◌-◌, ◌^◌, min, max, List, [], ◌∷◌, set, replicate, slice_index, Option, None, Some}
 use Rattle.eevdf_queue.specs.Numbers.{number_limit}
-use Rattle.eevdf_ops.specs.{declared.deeds.Answer.Answer, declared.deeds.Deed.Deed, declared.deeds.Line.Line, Numbers.cpu_limit, Origins.decider}
+use Rattle.eevdf_ops.specs.{declared.deeds.Answer.Answer, declared.deeds.Deed.Deed, declared.deeds.Line.Line, Numbers.cpu_limit, Origins.decider, Origins.origin_of}
+use Rattle.eevdf_ops.specs.{declared.named.Named.Named, declared.origin.Origin.Origin, Setup.named}
+use Rattle.eevdf_ops.specs.declared.named.Named.TheVariants.{Task, TaskAtHome}
+use Rattle.eevdf_ops.specs.declared.origin.Origin.TheVariants.{Operation, Request}
 use Rattle.eevdf_ops.specs.declared.deeds.Answer.TheVariants as answer
-use Rattle.eevdf_ops.specs.declared.deeds.Deed.TheVariants.{Tick, Sleep, Doze, Wake, Pull, Renice, Begin, End, Set}
+use Rattle.eevdf_ops.specs.declared.deeds.Deed.TheVariants.{Tick, Wake, Pull}
 use Rattle.eevdf_clocks.specs.declared.moment.Moment.{Moment}
 
 -- the clock of each CPU, and for each task the time at which it fell asleep or ended last, in nanoseconds
@@ -21,16 +24,18 @@ last_time = 2 ^ 64 - 1
 
 -- ---- what a line says
 
--- the task that a deed names
+-- the task that a deed names: that of its operation, or of the request
+abbrev pub task_in : Named → Option ℕ
+task_in (Task task) = Some task
+task_in (TaskAtHome task) = Some task
+task_in _ = None
+
+abbrev pub task_by : Origin → Option ℕ
+task_by (Operation o) = task_in (named o)
+task_by (Request task sender) = Some task
+
 abbrev pub task_of : Deed → Option ℕ
-task_of (Sleep cpu task) = Some task
-task_of (Doze cpu task) = Some task
-task_of (Wake cpu task sender) = Some task
-task_of (Renice cpu task nice) = Some task
-task_of (Begin cpu task nice slice) = Some task
-task_of (End cpu task) = Some task
-task_of (Set cpu task nice slice) = Some task
-task_of _ = None
+task_of d = task_by (origin_of d)
 
 -- the task that fell asleep or ended
 abbrev pub asleep_by : Answer → Deed → Option ℕ

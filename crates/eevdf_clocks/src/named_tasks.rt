@@ -3,26 +3,20 @@
 ghost use Rattle.std.specs.Prelude.{◌≡◌};
 ghost use Rattle.eevdf_clocks.specs.Times as spec;
 
-use eevdf_ops::{Answer, Deed, Line};
+use eevdf_ops::{Answer, Deed, Line, Named, Origin};
 use eevdf_queue::TaskId;
 
 /// The task that a deed names.
 pub fn named_task(deed: Deed) -> Option<TaskId>
     ensures { result ≡ spec.task_of deed }
 {
-    match deed {
-        Deed::Sleep { task, .. }
-        | Deed::Doze { task, .. }
-        | Deed::Wake { task, .. }
-        | Deed::Renice { task, .. }
-        | Deed::Begin { task, .. }
-        | Deed::End { task, .. }
-        | Deed::Set { task, .. } => Some(task),
-        Deed::Tick { .. }
-        | Deed::Pick { .. }
-        | Deed::Yield { .. }
-        | Deed::Pull { .. }
-        | Deed::Rebase { .. } => None,
+    let (_, origin) = deed.parts();
+    match origin {
+        Origin::Request { task, .. } => Some(task),
+        Origin::Operation(operation) => match operation.named() {
+            Named::Task(task) | Named::TaskAtHome(task) => Some(task),
+            Named::Source(_) | Named::Nothing => None,
+        },
     }
 }
 
