@@ -13,11 +13,11 @@ def held(number):
 
 
 class Bounds:
-    """The three numbers beside a queue, of which others make the calls."""
+    """The four numbers beside a queue, of which others make the calls."""
 
     def __init__(self, queue):
         self.queue = queue
-        self.front, self.longest, self.turn = LEAST, 0, None
+        self.front, self.furthest, self.longest, self.turn = LEAST, LEAST, 0, None
 
     def late_by(self, deadline):
         return max(self.longest, held(self.front - deadline))
@@ -39,19 +39,22 @@ class Bounds:
         """Whoever runs was charged."""
         entry = self.queue.runnable[self.queue.running]
         if self.turn is None:
-            self.raise_to(entry.v)
+            self.reach(entry.v)
         else:
             self.turn = held(self.turn + charge_of(nanoseconds, entry.weight()))
             self.longest = max(self.longest, self.turn)
+            self.furthest = max(self.furthest, entry.v)
 
     def lower(self, by):
-        self.front = held(self.front - by)
+        self.front, self.furthest = held(self.front - by), held(self.furthest - by)
 
     def measure(self):
         """Looks at each runnable task in place of what was kept."""
         entries = self.queue.runnable.values()
-        self.front = LEAST
-        self.longest = max(0, held(max(entry.v for entry in entries) - min(entry.d for entry in entries))) if entries else 0
+        self.front, self.furthest, self.longest = LEAST, LEAST, 0
+        if entries:
+            self.furthest = max(entry.v for entry in entries)
+            self.longest = max(0, held(self.furthest - min(entry.d for entry in entries)))
 
     def change(self, task, call):
         """Makes a call that touches one task alone, and looks at it beside the mark of before."""
@@ -61,13 +64,15 @@ class Bounds:
         if entry is None:
             return
         if mark is None:
-            self.front, self.longest, self.turn = entry.v, 0, None
+            self.front, self.furthest, self.longest, self.turn = LEAST, LEAST, 0, None
+            self.reach(entry.v)
             return
         time, deadline = mark
+        self.reach(entry.v)
         if entry.d < deadline:
-            self.raise_to(held(deadline + self.longest))
+            self.front, self.turn = max(self.front, self.furthest), None
         if entry.v > time:
-            self.raise_to(entry.v)
+            self.turn = None
 
     def mark(self, task):
         if entry := self.queue.runnable.get(task):
@@ -75,8 +80,10 @@ class Bounds:
         first = self.queue.peek()
         return None if first is None else (self.queue.virtual_time(), self.queue.runnable[first].d)
 
-    def raise_to(self, front):
-        self.front, self.turn = max(self.front, front), None
+    def reach(self, v):
+        """A task has come to a virtual runtime out of its turn."""
+        if self.furthest < v:
+            self.front, self.furthest = max(self.front, v), v
 
 
 class FairQueue(Bounds):

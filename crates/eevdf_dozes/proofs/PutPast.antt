@@ -64,7 +64,7 @@ runtime_by : (time lag nice : ℤ) (total : ℕ) (b : Bool) → pos 0 ≤ℤ lag
 runtime_by time lag nice total true h = same_time time
 runtime_by time lag nice total false h = placed_before time lag total (weight_of nice) h
 
-placed_in_time : (q : State) (s : Sleeper) → pos 0 ≤ℤ s.lag → placement q s ≤ℤ virtual_time q
+pub placed_in_time : (q : State) (s : Sleeper) → pos 0 ≤ℤ s.lag → placement q s ≤ℤ virtual_time q
 placed_in_time q s h = runtime_by (virtual_time q) s.lag s.nice (total_weight q.runnable) (total_weight q.runnable == 0) h
 
 -- ---- and the virtual time isn't past where all stand

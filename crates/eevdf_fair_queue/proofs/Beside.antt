@@ -3,14 +3,14 @@ use Rattle.std.proofs.Common.{◌≡◌, ℕ, ◌+◌, ◌*◌, ◌≤◌, Bool,
 use Rattle.std.specs.Prelude.{ℤ, pos, ◌+ℤ◌, ◌-ℤ◌, ◌==◌, IfSome}
 use Rattle.std.specs.{Option.option_map, FinMap.get, FinMap.insert}
 use Rattle.eevdf_weight.specs.{Weight.weight_of, Limits.is_in_range}
-use Rattle.eevdf_queue.specs.{declared.entry.Entry.Entry, State.State, Sums.Tasks, Sums.total_weight, Sums.virtual_time}
+use Rattle.eevdf_queue.specs.{declared.entry.Entry.Entry, State.State, Sums.total_weight, Sums.virtual_time}
 use Rattle.eevdf_queue.specs.declared.answers.TickAnswer.{TickAnswer}
 use Rattle.eevdf_queue.specs.declared.answers.TickAnswer.TheVariants.{Charged, Idle, Range}
 use Rattle.eevdf_queue.specs.declared.answers.YieldAnswer.{YieldAnswer}
 use Rattle.eevdf_queue.specs.declared.answers.YieldAnswer.TheVariants as yields
 use Rattle.eevdf_queue.specs.declared.answers.YieldAnswer.TheVariants.{Yielded}
 use Rattle.eevdf_queue.specs.{Tick.tick, Tick.charged as charged_entry, Yield.yielded, Yield.yield_entry, Yield.yield_running}
-use Rattle.eevdf_queue.specs.{Rebase.rebased, Rebase.can_rebase, Rebase.lowered_entry, Rebase.lowered_tasks}
+use Rattle.eevdf_queue.specs.{Rebase.rebased, Rebase.can_rebase, Rebase.lowered_entry}
 use Rattle.eevdf_queue.proofs.LoweredMaps.{get-lowered}
 use Rattle.eevdf_fairness.proofs.Growing.{Grown, charged_grown, get_here}
 use Rattle.eevdf_ops.proofs.MapCounts.{equal}

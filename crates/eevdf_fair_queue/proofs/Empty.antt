@@ -17,6 +17,7 @@ pub nobody_is_fair : (q : State) → q.runnable ≡ empty → IsFair q fresh
 nobody_is_fair q nobody = record {
   due = λ t x at. none_there q.runnable t x nobody at;
   longest = nothing_less (pos 0);
-  near = λ t u x y at here. none_there q.runnable t x nobody at;
+  behind = λ t x at. none_there q.runnable t x nobody at;
+  near = λ t x at. none_there q.runnable t x nobody at;
   turn = λ turn is. no_turn turn is;
 }

@@ -1,10 +1,9 @@
 -- A bound in virtual time is one in nanoseconds.
-use Rattle.std.proofs.Common.{◌≡◌, ℕ, ◌+◌, ◌*◌, ◌/◌, ◌≤◌, Some, ap, ◌∙◌, arith}
+use Rattle.std.proofs.Common.{◌≡◌, ℕ, ◌+◌, ◌*◌, ◌/◌, ◌≤◌, ap, ◌∙◌, arith}
 use Rattle.std.specs.Prelude.{ℤ, pos, negsuc, ◌+ℤ◌, ◌*ℤ◌, ◌≤ℤ◌}
-use Rattle.std.specs.FinMap.{get}
 use Rattle.std.proofs.{lemmas.Int.ints, Math.IntN.pos-*ℤ-pos}
 use Rattle.eevdf_queue.proofs.Scaled.{sum_scaled, scaled_le}
-use Rattle.eevdf_queue.specs.{declared.entry.Entry.Entry, State.State, Sums.total_weight, Sums.total_moment}
+use Rattle.eevdf_queue.specs.{State.State, Sums.total_weight, Sums.total_moment}
 use Rattle.eevdf_fair_queue.specs.{Lateness.NoneIsLaterThan, InTime.in_time, InTime.NoneIsLaterInTime}
 
 rounded_up : (n : ℕ) → n ≤ 1024 * ((n + 1023) / 1024)

@@ -39,7 +39,8 @@ pub fewer : (q r : State) (b : Bounds) → IsFair q b → ((t : ℕ) (x : Entry)
 fewer q r b fair there ran = record {
   due = λ t x at. fair.due t x (there t x at);
   longest = fair.longest;
-  near = λ t u x y at here. fair.near t u x y (there t x at) (there u y here);
+  behind = λ t x at. fair.behind t x (there t x at);
+  near = λ t x at. fair.near t x (there t x at);
   turn = λ turn is. record {
     some = (fair.turn turn is).some;
     past = λ t u x y runs at here. (fair.turn turn is).past t u x y (ran t runs) (there t x at) (there u y here);
@@ -112,7 +113,7 @@ adopt_keeps q b task here is fair =
     subst (λ (c : Bool). IsFair (cond c (picked_by q (Some task)) q) (unpicked b here)) is (by here)
   where
     by : (c : Bool) → IsFair (cond c (picked_by q (Some task)) q) (unpicked b c)
-    by true = record { due = fair.due; longest = fair.longest; near = fair.near; turn = λ turn none. absurd (cc) }
+    by true = record { due = fair.due; longest = fair.longest; behind = fair.behind; near = fair.near; turn = λ turn none. absurd (cc) }
     by false = fair
 
 -- a task is taken out, whichever it is

@@ -10,7 +10,7 @@ use Rattle.eevdf_dozes.specs.{Stretches.NoneIsPastDue, Punctual.IsTimeWithin}
 use Rattle.eevdf_dozes.proofs.Punctual.{time_within}
 use Rattle.eevdf_fair_queue.specs.{declared.bounds.Bounds.Bounds, Bounds.held, Bounds.late_by}
 use Rattle.eevdf_fair_queue.specs.{Fair.IsFair, Lateness.IsLateBy, Lateness.NoneIsLaterThan}
-use Rattle.eevdf_fair_queue.proofs.{Nearness.small, Nearness.held_past, MeanTimes.floor_within, MeanTimes.over_some, MeanTimes.weighs}
+use Rattle.eevdf_fair_queue.proofs.{Nearness.each_near, Nearness.small, Nearness.held_past, MeanTimes.floor_within, MeanTimes.over_some, MeanTimes.weighs}
 use Rattle.eevdf_fair_queue.proofs.Orders.{lesser, lesser_other, nothing_less, one, then}
 
 from_front : (v front d x : ℤ) → v ≤ℤ front → x ≤ℤ d → v ≤ℤ (d +ℤ (front -ℤ x))
@@ -34,7 +34,7 @@ pub late_within : (q : State) (b : Bounds) → IsKept q → IsFair q b → (x : 
 late_within q b kept fair x task e here before =
     time_within q.runnable (e.d +ℤ late_by b x) (λ t y at.
     within_bound y.v b.front e.d x b.longest (small q.runnable kept.in_range t y at).v (small q.runnable kept.in_range task e here).d before
-    (fair.near t task y e at here))
+    (each_near q b fair t task y e at here))
 
 -- ---- the earliest deadline
 no_later : (d e : ℤ) (t u : ℕ) → (d <ℤ e) ⊎ ((d ≡ e) × (t ≤ u)) → d ≤ℤ e

@@ -8,6 +8,7 @@ pub mod Keeping
 pub mod Empty
 pub mod Late
 pub mod Arrivals
+pub mod Dozers
 pub mod InTime
 pub mod Measured
 pub mod Slices

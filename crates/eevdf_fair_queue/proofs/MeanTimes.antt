@@ -1,15 +1,14 @@
 -- The virtual time is no further than the furthest task.
-use Rattle.std.proofs.Common.{◌≡◌, ℕ, ◌≤◌, ◌⊎◌, Bool, true, false, cond, Some, refl, inl, inr, arith}
-use Rattle.std.specs.Prelude.{ℤ, pos, negsuc, ◌+ℤ◌, ◌-ℤ◌, ◌*ℤ◌, ◌≤ℤ◌, int_lt, ◌==◌}
-use Rattle.std.specs.{FinMap.get, Int.int_max}
-use Rattle.std.proofs.{lemmas.Int.ints, lemmas.Int.clamps, lemmas.Bool.Decides.nat_tests, Math.Nat.div-le_self}
+use Rattle.std.proofs.Common.{◌≡◌, ℕ, ◌≤◌, Bool, true, false, cond, Some, refl, arith}
+use Rattle.std.specs.Prelude.{ℤ, pos, negsuc, ◌-ℤ◌, ◌*ℤ◌, ◌≤ℤ◌, ◌==◌}
+use Rattle.std.specs.{FinMap.get}
+use Rattle.std.proofs.{lemmas.Int.ints, lemmas.Bool.Decides.nat_tests, Math.Nat.div-le_self}
 use Rattle.eevdf_weight.specs.{Placement.floor_div}
 use Rattle.eevdf_weight.proofs.Weighing.{weight_of-least}
 use Rattle.eevdf_queue.specs.{declared.entry.Entry.Entry, State.State, Sums.Tasks, Sums.total_weight, Sums.total_moment, Sums.time_over, Sums.virtual_time}
 use Rattle.eevdf_queue.proofs.Floors.{floor_lowered}
 use Rattle.eevdf_fairness.proofs.EntrySums.{no_heavier}
 use Rattle.eevdf_dozes.proofs.Punctual.{time_within}
-use Rattle.eevdf_fair_queue.specs.{declared.bounds.Bounds.Bounds, Fair.IsNear}
 
 floor_of_none : (z : ℤ) (n : ℕ) → z ≤ℤ pos 0 → floor_div z n ≤ℤ pos 0
 floor_of_none (pos a) n h = omega (arith, ints, h, div-le_self a n)
@@ -48,22 +47,3 @@ mean_within q limit t e here within =
     let some : 1 ≤ total_weight q.runnable = weighs q.runnable t e here in
     over_some (total_weight q.runnable) (total_moment q.runnable) q.base limit some
     (floor_within (total_moment q.runnable) limit (total_weight q.runnable) some (time_within q.runnable limit within))
-
-either : (v front other : ℤ) → (v ≤ℤ front) ⊎ (v ≤ℤ other) → v ≤ℤ int_max front other
-either v front other (inl h) = omega (arith, ints, clamps, h)
-either v front other (inr h) = omega (arith, ints, clamps, h)
-
-parted : (v front other : ℤ) → v ≤ℤ int_max front other → (v ≤ℤ front) ⊎ (v ≤ℤ other)
-parted v front other h =
-    by (int_lt other front) refl
-  where
-    by : (b : Bool) → int_lt other front ≡ b → (v ≤ℤ front) ⊎ (v ≤ℤ other)
-    by true is = inl (omega (arith, ints, clamps, h, is))
-    by false is = inr (omega (arith, ints, clamps, h, is))
-
--- where all tasks are near a deadline, the virtual time is
-pub mean_near : (q : State) (b : Bounds) (t : ℕ) (e : Entry) (d : ℤ) → get q.runnable t ≡ Some e
-    → ((u : ℕ) (x : Entry) → get q.runnable u ≡ Some x → IsNear b x.v d) → IsNear b (virtual_time q) d
-mean_near q b t e d here near =
-    parted (virtual_time q) b.front (d +ℤ b.longest)
-    (mean_within q (int_max b.front (d +ℤ b.longest)) t e here (λ u x there. either x.v b.front (d +ℤ b.longest) (near u x there)))

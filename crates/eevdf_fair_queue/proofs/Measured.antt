@@ -1,5 +1,5 @@
 -- Bounds that are measured of a queue are fair, and no greater than those that were kept.
-use Rattle.std.proofs.Common.{◌≡◌, ℕ, ◌^◌, ◌≤◌, Bool, true, false, cond, List, [], ◌∷◌, Option, Some, None, refl, sym, ap, ◌∙◌, subst, inr, arith}
+use Rattle.std.proofs.Common.{◌≡◌, ℕ, ◌^◌, ◌≤◌, Bool, true, false, cond, List, [], ◌∷◌, Option, Some, None, refl, sym, ◌∙◌, subst, inr, arith}
 use Rattle.std.specs.Prelude.{ℤ, pos, negsuc, neg_ℤ, ◌+ℤ◌, ◌-ℤ◌, ◌≤ℤ◌, unsigned_abs}
 use Rattle.std.specs.{Ordering.nat_cmp, Ordering.eq_by_cmp, FinMap.get, FinMap.entries, FinMap.find, FinMap.get-entries, Int.int_max, Int.int_min, List.fold}
 use Rattle.std.specs.Option.{option_and_then}
@@ -8,8 +8,8 @@ use Rattle.eevdf_queue.specs.{declared.entry.Entry.Entry, State.State, Sums.Task
 use Rattle.eevdf_queue.proofs.Bounds.{within}
 use Rattle.eevdf_fairness.proofs.EntrySums.{Each, each}
 use Rattle.eevdf_fair_queue.specs.{declared.bounds.Bounds.Bounds, declared.bounds.Mark.Mark, Bounds.held, Bounds.late_by}
-use Rattle.eevdf_fair_queue.specs.{Fair.IsFair, Fair.IsTurn, Lateness.lateness_bound, Lateness.bound_by, Measured.beside, Measured.extremes, Measured.past_by, Measured.measured}
-use Rattle.eevdf_fair_queue.proofs.{Nearness.small, Nearness.held_past, Late.within_bound, Late.before_by, Orders.lesser_other, Orders.nothing_less, Orders.one}
+use Rattle.eevdf_fair_queue.specs.{Fair.IsFair, Fair.IsTurn, Lateness.lateness_bound, Lateness.bound_by, Measured.beside, Measured.extremes, Measured.past_by, Measured.furthest_of, Measured.measured}
+use Rattle.eevdf_fair_queue.proofs.{Nearness.each_near, Nearness.small, Nearness.held_past, Late.within_bound, Late.before_by, Orders.lesser_other, Orders.nothing_less, Orders.one}
 
 -- ---- the extremes are beyond each task
 abbrev IsBeyond : Option Mark → Entry → Type 0
@@ -60,11 +60,31 @@ apart v d a b h k = omega (arith, ints, h, k)
 not_negative : (v d z : ℤ) → v ≤ℤ (d +ℤ z) → v ≤ℤ (d +ℤ int_max (pos 0) z)
 not_negative v d z h = omega (arith, ints, clamps, h)
 
-none_past : (o : Option Mark) (e f : Entry) → e.v ≤ℤ pos (2 ^ 60) → neg_ℤ (pos (2 ^ 60)) ≤ℤ f.d → IsBeyond o e → IsBeyond o f
-    → e.v ≤ℤ (f.d +ℤ past_by o)
-none_past None e f little low h k = absurd h
-none_past (Some m) e f little low h k =
-    not_negative e.v f.d (held (m.v -ℤ m.d)) (held_past e.v f.d (m.v -ℤ m.d) little low (apart e.v f.d m.v m.d h.0 k.1))
+-- ---- and the latest virtual runtime is one of theirs
+no_later_than : (z a b : ℤ) → a ≤ℤ z → b ≤ℤ z → int_max a b ≤ℤ z
+no_later_than z a b h k = omega (arith, ints, clamps, h, k)
+
+abbrev IsNoLater : ℤ → Option Mark → Type 0
+IsNoLater z None = Unit {0}
+IsNoLater z (Some m) = m.v ≤ℤ z
+
+no_later_one : (z : ℤ) (o : Option Mark) (x : ℕ × Entry) → x.1.v ≤ℤ z → IsNoLater z o → IsNoLater z (beside o x)
+no_later_one z None x h k = h
+no_later_one z (Some m) x h k = no_later_than z m.v x.1.v k h
+
+no_later : (z : ℤ) (es : List (ℕ × Entry)) (o : Option Mark) → Each (λ e. e.v ≤ℤ z) es → IsNoLater z o → IsNoLater z (fold beside o es)
+no_later z [] o these h = h
+no_later z (x ∷ es) o these h = no_later z es (beside o x) these.1 (no_later_one z o x these.0 h)
+
+-- so it is past no deadline by more
+past_by_of : (o : Option Mark) (f : Entry) → neg_ℤ (pos (2 ^ 60)) ≤ℤ f.d → IsNoLater (pos (2 ^ 60)) o → IsBeyond o f → furthest_of o ≤ℤ (f.d +ℤ past_by o)
+past_by_of None f low small h = absurd h
+past_by_of (Some m) f low small h =
+    not_negative m.v f.d (held (m.v -ℤ m.d)) (held_past m.v f.d (m.v -ℤ m.d) small low (apart m.v f.d m.v m.d (nothing_less m.v) h.1))
+
+furthest_beyond : (o : Option Mark) (e : Entry) → IsBeyond o e → e.v ≤ℤ furthest_of o
+furthest_beyond None e h = absurd h
+furthest_beyond (Some m) e h = h.0
 
 some_past : (o : Option Mark) → pos 0 ≤ℤ past_by o
 some_past None = nothing_less (pos 0)
@@ -77,8 +97,10 @@ pub measured_is_fair : (q : State) (b : Bounds) → IsKept q → ((turn : ℤ) �
 measured_is_fair q b kept turn = record {
   due = kept.due;
   longest = some_past (extremes q.runnable);
-  near = λ t u e f at here. inr (none_past (extremes q.runnable) e f (small q.runnable kept.in_range t e at).v (small q.runnable kept.in_range u f here).d
-      (all_beyond q.runnable t e at) (all_beyond q.runnable u f here));
+  behind = λ t e at. furthest_beyond (extremes q.runnable) e (all_beyond q.runnable t e at);
+  near = λ t e at. inr (past_by_of (extremes q.runnable) e (small q.runnable kept.in_range t e at).d
+      (no_later (pos (2 ^ 60)) (entries q.runnable) None (each (λ x. x.v ≤ℤ pos (2 ^ 60)) q.runnable (λ u x here. (small q.runnable kept.in_range u x here).v)) tt)
+      (all_beyond q.runnable t e at));
   turn = turn;
 }
 
@@ -169,7 +191,7 @@ at_pick first q b p f kept fair is at =
     (λ t u e g here there. within_bound e.v b.front g.d x b.longest (small q.runnable kept.in_range t e here).v (small q.runnable kept.in_range u g there).d
     (subst (λ (y : Entry). int_min (virtual_time q) y.d ≤ℤ g.d) (one pick.entry f (get q.runnable p) pick.eligible.here at)
     (before_by q p pick fair.due u g there (is_eligible q.runnable g) refl))
-    (fair.near t u e g here there)) some)
+    (each_near q b fair t u e g here there)) some)
     (not_late x (late_by b x) (neg_ℤ (pos (2 ^ 63)) -ℤ x) low some refl)
 
 pub measured_is_no_later : PickIsFirst → (q : State) (b : Bounds) → IsKept q → IsFair q b → lateness_bound q (measured b q) ≤ℤ lateness_bound q b

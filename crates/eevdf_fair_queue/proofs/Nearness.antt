@@ -1,13 +1,13 @@
--- Sums that 64 bits hold, and how bounds that are raised keep what others kept.
-use Rattle.std.proofs.Common.{◌≡◌, ℕ, ◌^◌, ◌≤◌, ◌⊎◌, Bool, true, false, Some, None, refl, inl, inr, arith}
+-- Sums that 64 bits hold, and how bounds that reach further keep what others kept.
+use Rattle.std.proofs.Common.{◌≡◌, ℕ, ◌^◌, ◌≤◌, ◌⊎◌, Bool, true, false, cond, Some, None, refl, sym, ◌∙◌, inl, inr, arith}
 use Rattle.std.specs.Prelude.{ℤ, pos, negsuc, neg_ℤ, ◌+ℤ◌, ◌≤ℤ◌, int_lt, unsigned_abs, ◌==◌}
 use Rattle.std.specs.{FinMap.get, Int.int_max}
 use Rattle.std.proofs.{lemmas.Int.ints, lemmas.Int.clamps, lemmas.Bool.Decides.nat_tests}
-use Rattle.eevdf_queue.specs.{declared.entry.Entry.Entry, Sums.Tasks, Kept.AreInRange}
+use Rattle.eevdf_queue.specs.{declared.entry.Entry.Entry, State.State, Sums.Tasks, Kept.AreInRange}
 use Rattle.eevdf_queue.proofs.Bounds.{within, range_v, range_d}
 use Rattle.eevdf_fair_queue.specs.{declared.bounds.Bounds.Bounds, declared.bounds.Mark.Mark}
-use Rattle.eevdf_fair_queue.specs.Bounds.{held, raised_where}
-use Rattle.eevdf_fair_queue.specs.Fair.{IsNear}
+use Rattle.eevdf_fair_queue.specs.Bounds.{held, reached, advanced_where, adopted}
+use Rattle.eevdf_fair_queue.specs.Fair.{IsNear, IsFair}
 
 -- ---- sums
 pub held_above : (x z : ℤ) → x ≤ℤ pos (2 ^ 60) → x ≤ℤ z → x ≤ℤ held z
@@ -62,7 +62,7 @@ earlier_by : (v w d front longest : ℤ) → v ≤ℤ w → (w ≤ℤ front) ⊎
 earlier_by v w d front longest h (inl n) = inl (omega (arith, ints, h, n))
 earlier_by v w d front longest h (inr n) = inr (omega (arith, ints, h, n))
 
-pub near_before : (b : Bounds) (v w d : ℤ) → v ≤ℤ w → IsNear b w d → IsNear b v d
+near_before : (b : Bounds) (v w d : ℤ) → v ≤ℤ w → IsNear b w d → IsNear b v d
 near_before b v w d = earlier_by v w d b.front b.longest
 
 later_by : (v c d front longest : ℤ) → c ≤ℤ d → (v ≤ℤ front) ⊎ (v ≤ℤ (c +ℤ longest)) → (v ≤ℤ front) ⊎ (v ≤ℤ (d +ℤ longest))
@@ -72,42 +72,63 @@ later_by v c d front longest h (inr n) = inr (omega (arith, ints, h, n))
 pub near_later : (b : Bounds) (v c d : ℤ) → c ≤ℤ d → IsNear b v c → IsNear b v d
 near_later b v c d = later_by v c d b.front b.longest
 
--- who is near a deadline isn't past a front that is at least so far
-past_front : (v d front longest front' : ℤ) → v ≤ℤ pos (2 ^ 60) → front ≤ℤ front' → held (d +ℤ longest) ≤ℤ front'
-    → (v ≤ℤ front) ⊎ (v ≤ℤ (d +ℤ longest)) → v ≤ℤ front'
-past_front v d front longest front' little h k (inl n) = omega (arith, ints, h, n)
-past_front v d front longest front' little h k (inr n) =
-    let l : v ≤ℤ held (d +ℤ longest) = held_above v (d +ℤ longest) little n in
-    goes v (held (d +ℤ longest)) front' l k
-  where
-    goes : (a b c : ℤ) → a ≤ℤ b → b ≤ℤ c → a ≤ℤ c
-    goes a b c h k = omega (arith, ints, h, k)
+-- no task is past another's deadline by more than the furthest
+pub each_near : (q : State) (b : Bounds) → IsFair q b → (t u : ℕ) (e f : Entry) → get q.runnable t ≡ Some e → get q.runnable u ≡ Some f → IsNear b e.v f.d
+each_near q b fair t u e f at here = near_before b e.v b.furthest f.d (fair.behind t e at) (fair.near u f here)
 
-pub behind_front : (b c : Bounds) (v d : ℤ) → v ≤ℤ pos (2 ^ 60) → b.front ≤ℤ c.front → held (d +ℤ b.longest) ≤ℤ c.front → IsNear b v d → v ≤ℤ c.front
-behind_front b c v d = past_front v d b.front b.longest c.front
-
--- ---- what becomes of the bounds where a task stands anew beside a mark
-pub record Becomes (b c : Bounds) (m : Mark) (e : Entry) : Type 0 where
-  pub front : b.front ≤ℤ c.front
-  pub longest : c.longest ≡ b.longest
-  pub deadline : (m.d ≤ℤ e.d) ⊎ (held (m.d +ℤ b.longest) ≤ℤ c.front)
-  pub place : (e.v ≤ℤ m.v) ⊎ (e.v ≤ℤ c.front)
-  pub turn : (turn : ℤ) → c.turn ≡ Some turn → (b.turn ≡ Some turn) × (m.d ≤ℤ e.d) × (e.v ≤ℤ m.v)
-
+-- ---- what becomes of the bounds where a task comes to a virtual runtime
 greatest : (a b : ℤ) → a ≤ℤ int_max a b
 greatest a b = omega (arith, ints, clamps)
 
 greatest_other : (a b : ℤ) → b ≤ℤ int_max a b
 greatest_other a b = omega (arith, ints, clamps)
 
-at_most : (a b c : ℤ) → a ≤ℤ int_max (int_max c a) b
-at_most a b c = omega (arith, ints, clamps)
-
-twice : (a b c : ℤ) → a ≤ℤ int_max (int_max a b) c
-twice a b c = omega (arith, ints, clamps)
-
 itself : (a : ℤ) → a ≤ℤ a
 itself a = omega (arith, ints)
+
+-- the furthest is where it was, or the front has come to it
+pub record IsReached (b c : Bounds) (v : ℤ) : Type 0 where
+  pub front : b.front ≤ℤ c.front
+  pub furthest : b.furthest ≤ℤ c.furthest
+  pub longest : c.longest ≡ b.longest
+  pub turn : c.turn ≡ b.turn
+  pub behind : v ≤ℤ c.furthest
+  pub now : (c.furthest ≡ b.furthest) ⊎ (c.furthest ≤ℤ c.front)
+
+pub reaches : (b : Bounds) (v : ℤ) → IsReached b (reached b v) v
+reaches b v =
+    by (int_lt b.furthest v) refl
+  where
+    by : (is : Bool) → int_lt b.furthest v ≡ is → IsReached b (cond is (record b { front = int_max b.front v; furthest = v }) b) v
+    by true is = record {
+      front = greatest b.front v;
+      furthest = omega (arith, ints, is);
+      longest = refl;
+      turn = refl;
+      behind = itself v;
+      now = inr (greatest_other b.front v);
+    }
+    by false is = record {
+      front = itself b.front;
+      furthest = itself b.furthest;
+      longest = refl;
+      turn = refl;
+      behind = omega (arith, ints, is);
+      now = inl refl;
+    }
+
+-- ---- and where it stands anew beside a mark
+pub record Becomes (b c : Bounds) (m : Mark) (e : Entry) : Type 0 where
+  pub front : b.front ≤ℤ c.front
+  pub furthest : b.furthest ≤ℤ c.furthest
+  pub longest : c.longest ≡ b.longest
+  pub behind : e.v ≤ℤ c.furthest
+  pub now : (c.furthest ≡ b.furthest) ⊎ (c.furthest ≤ℤ c.front)
+  pub deadline : (m.d ≤ℤ e.d) ⊎ (c.furthest ≤ℤ c.front)
+  pub turn : (turn : ℤ) → c.turn ≡ Some turn → (b.turn ≡ Some turn) × (m.d ≤ℤ e.d) × (e.v ≤ℤ m.v)
+
+further : (a b c : ℤ) → a ≤ℤ b → a ≤ℤ int_max b c
+further a b c h = omega (arith, ints, clamps, h)
 
 not_less : (a b : ℤ) → int_lt a b ≡ false → b ≤ℤ a
 not_less a b is = omega (arith, ints, is)
@@ -115,33 +136,41 @@ not_less a b is = omega (arith, ints, is)
 no_turn : {A : Type 0} (turn : ℤ) → None ≡ Some turn → A
 no_turn turn is = absurd (cc)
 
-pub becomes : (b : Bounds) (m : Mark) (e : Entry) (later earlier : Bool) → int_lt m.v e.v ≡ later → int_lt e.d m.d ≡ earlier
-    → Becomes b (raised_where later e.v (raised_where earlier (held (m.d +ℤ b.longest)) b)) m e
-becomes b m e false false later earlier = record {
-  front = itself b.front;
-  longest = refl;
+pub becomes : (b c : Bounds) (m : Mark) (e : Entry) (later earlier : Bool) → IsReached b c e.v → int_lt m.v e.v ≡ later → int_lt e.d m.d ≡ earlier
+    → Becomes b (adopted (advanced_where earlier c) later) m e
+becomes b c m e false false re later earlier = record {
+  front = re.front;
+  furthest = re.furthest;
+  longest = re.longest;
+  behind = re.behind;
+  now = re.now;
   deadline = inl (not_less e.d m.d earlier);
-  place = inl (not_less m.v e.v later);
-  turn = λ turn is. (is, not_less e.d m.d earlier, not_less m.v e.v later);
+  turn = λ turn is. (sym re.turn ∙ is, not_less e.d m.d earlier, not_less m.v e.v later);
 }
-becomes b m e false true later earlier = record {
-  front = greatest b.front (held (m.d +ℤ b.longest));
-  longest = refl;
-  deadline = inr (greatest_other b.front (held (m.d +ℤ b.longest)));
-  place = inl (not_less m.v e.v later);
+becomes b c m e true false re later earlier = record {
+  front = re.front;
+  furthest = re.furthest;
+  longest = re.longest;
+  behind = re.behind;
+  now = re.now;
+  deadline = inl (not_less e.d m.d earlier);
   turn = λ turn is. no_turn turn is;
 }
-becomes b m e true false later earlier = record {
-  front = greatest b.front e.v;
-  longest = refl;
-  deadline = inl (not_less e.d m.d earlier);
-  place = inr (greatest_other b.front e.v);
+becomes b c m e false true re later earlier = record {
+  front = further b.front c.front c.furthest re.front;
+  furthest = re.furthest;
+  longest = re.longest;
+  behind = re.behind;
+  now = inr (greatest_other c.front c.furthest);
+  deadline = inr (greatest_other c.front c.furthest);
   turn = λ turn is. no_turn turn is;
 }
-becomes b m e true true later earlier = record {
-  front = twice b.front (held (m.d +ℤ b.longest)) e.v;
-  longest = refl;
-  deadline = inr (at_most (held (m.d +ℤ b.longest)) e.v b.front);
-  place = inr (greatest_other (int_max b.front (held (m.d +ℤ b.longest))) e.v);
+becomes b c m e true true re later earlier = record {
+  front = further b.front c.front c.furthest re.front;
+  furthest = re.furthest;
+  longest = re.longest;
+  behind = re.behind;
+  now = inr (greatest_other c.front c.furthest);
+  deadline = inr (greatest_other c.front c.furthest);
   turn = λ turn is. no_turn turn is;
 }

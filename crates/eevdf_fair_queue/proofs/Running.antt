@@ -1,6 +1,6 @@
 -- Picks, ticks, yields, rebases and leavings keep a queue fair.
 use Rattle.std.proofs.Common.{◌≡◌, ℕ, ◌^◌, ◌⊎◌, Bool, true, false, cond, Option, Some, None, refl, sym, ap, ◌∙◌, subst, inl, inr, arith}
-use Rattle.std.specs.Prelude.{ℤ, pos, ◌+ℤ◌, ◌-ℤ◌, ◌≤ℤ◌}
+use Rattle.std.specs.Prelude.{ℤ, pos, negsuc, neg_ℤ, ◌+ℤ◌, ◌-ℤ◌, ◌≤ℤ◌, int_le}
 use Rattle.std.specs.{Option.option_map, FinMap.get, FinMap.insert, Int.int_max}
 use Rattle.std.proofs.{lemmas.Int.ints, lemmas.Int.clamps}
 use Rattle.eevdf_weight.specs.{Weight.weight_of, Charge.charge_of}
@@ -18,9 +18,10 @@ use Rattle.eevdf_fairness.proofs.Growing.{get_here, found_at_after, charged_grow
 use Rattle.eevdf_dozes.specs.Stretches.{NoneIsPastDue}
 use Rattle.eevdf_dozes.proofs.PicksInTime.{same_tasks, runner_in_time, IsInTime}
 use Rattle.eevdf_dozes.proofs.Ticking.{tick_cases}
-use Rattle.eevdf_fair_queue.specs.{declared.bounds.Bounds.Bounds, Bounds.held, Bounds.picked, Bounds.ticked, Bounds.ticked_by, Bounds.charged_to, Bounds.charged_from, Bounds.lowered}
-use Rattle.eevdf_fair_queue.specs.Fair.{IsNear, AreNear, IsTurn, IsFair, charged_by}
-use Rattle.eevdf_fair_queue.proofs.Nearness.{same_or_other, small, IsSmall, held_above, held_past, held_some, stays_near, near_later}
+use Rattle.eevdf_fair_queue.specs.{declared.bounds.Bounds.Bounds, Bounds.held, Bounds.picked, Bounds.ticked, Bounds.reached, Bounds.ticked_by, Bounds.charged_to, Bounds.charged_from, Bounds.lowered}
+use Rattle.eevdf_fair_queue.specs.Fair.{IsNear, AreBehind, AreNear, IsTurn, IsFair, charged_by}
+use Rattle.eevdf_fair_queue.proofs.Nearness.{same_or_other, small, IsSmall, held_above, held_past, held_some, stays_near, near_later, IsReached}
+use Rattle.eevdf_fair_queue.proofs.Nearness.{reaches as reached_to}
 
 one : (e f : Entry) (o : Option Entry) → o ≡ Some e → o ≡ Some f → e ≡ f
 one e f o h k = cc
@@ -51,17 +52,20 @@ module _ (first : PickIsFirst) (nobody : PickOfNobody) (q : State) (b : Bounds) 
   pick_keeps = record {
     due = λ t e here. fair.due t e (there t e here);
     longest = fair.longest;
-    near = λ t u e f at here. fair.near t u e f (there t e at) (there u f here);
+    behind = λ t e at. fair.behind t e (there t e at);
+    near = λ t e at. fair.near t e (there t e at);
     turn = turn_begins;
   }
 
 -- ---- a tick
--- how far the bounds reach after a charge
+-- how far the bounds reach after a charge: the furthest is where it was, or the front has come to it, or it is who was charged in its turn
 record Reaches (b c : Bounds) (v charge : ℤ) : Type 0 where
   front : b.front ≤ℤ c.front
+  furthest : b.furthest ≤ℤ c.furthest
   longest : b.longest ≤ℤ c.longest
   some : pos 0 ≤ℤ c.longest
-  now : (v ≤ℤ c.front) ⊎ ((turn : ℤ) × (b.turn ≡ Some turn) × (held (turn +ℤ charge) ≤ℤ c.longest))
+  behind : v ≤ℤ c.furthest
+  now : (c.furthest ≡ b.furthest) ⊎ ((c.furthest ≤ℤ c.front) ⊎ ((turn : ℤ) × (b.turn ≡ Some turn) × (c.furthest ≡ v) × (held (turn +ℤ charge) ≤ℤ c.longest)))
   turn : (n : ℤ) → c.turn ≡ Some n → (turn : ℤ) × (b.turn ≡ Some turn) × (n ≡ held (turn +ℤ charge))
 
 greatest : (a b : ℤ) → a ≤ℤ int_max a b
@@ -70,8 +74,16 @@ greatest a b = omega (arith, ints, clamps)
 greatest_other : (a b : ℤ) → b ≤ℤ int_max a b
 greatest_other a b = omega (arith, ints, clamps)
 
-no_turn : {A : Type 0} (turn : ℤ) → None ≡ Some turn → A
-no_turn turn is = absurd (cc)
+either : (a b : ℤ) → (int_max a b ≡ a) ⊎ (int_max a b ≡ b)
+either a b =
+    by (int_le b a) refl
+  where
+    by : (c : Bool) → int_le b a ≡ c → (int_max a b ≡ a) ⊎ (int_max a b ≡ b)
+    by true is = inl (omega (arith, ints, clamps, is))
+    by false is = inr (omega (arith, ints, clamps, is))
+
+no_turn : {A : Type 0} (n : ℤ) (o : Option ℤ) → o ≡ None → o ≡ Some n → A
+no_turn n o none is = absurd (cc)
 
 then : (a b c : ℤ) → a ≤ℤ b → b ≤ℤ c → a ≤ℤ c
 then a b c h k = omega (arith, ints, h, k)
@@ -79,21 +91,44 @@ then a b c h k = omega (arith, ints, h, k)
 the_same : (a b : ℤ) → Some a ≡ Some b → b ≡ a
 the_same a b h = cc
 
-reaches : (b : Bounds) (v charge : ℤ) (o : Option ℤ) → b.turn ≡ o → pos 0 ≤ℤ b.longest → Reaches b (ticked_by b charge v o) v charge
-reaches b v charge None is some = record {
-  front = greatest b.front v;
-  longest = nothing_less b.longest;
-  some = some;
-  now = inl (greatest_other b.front v);
-  turn = λ n is. no_turn n is;
+out_of_turn : (b c : Bounds) (v charge : ℤ) → b.turn ≡ None → pos 0 ≤ℤ b.longest → IsReached b c v → Reaches b c v charge
+out_of_turn b c v charge is some re = record {
+  front = re.front;
+  furthest = re.furthest;
+  longest = subst (λ (z : ℤ). b.longest ≤ℤ z) (sym re.longest) (nothing_less b.longest);
+  some = subst (λ (z : ℤ). pos 0 ≤ℤ z) (sym re.longest) some;
+  behind = re.behind;
+  now = by re.now;
+  turn = λ n. no_turn n c.turn (re.turn ∙ is);
 }
+  where
+    by : (c.furthest ≡ b.furthest) ⊎ (c.furthest ≤ℤ c.front)
+        → (c.furthest ≡ b.furthest) ⊎ ((c.furthest ≤ℤ c.front) ⊎ ((turn : ℤ) × (b.turn ≡ Some turn) × (c.furthest ≡ v) × (held (turn +ℤ charge) ≤ℤ c.longest)))
+    by (inl same) = inl same
+    by (inr past) = inr (inl past)
+
+reaches : (b : Bounds) (v charge : ℤ) (o : Option ℤ) → b.turn ≡ o → pos 0 ≤ℤ b.longest → Reaches b (ticked_by b charge v o) v charge
+reaches b v charge None is some = out_of_turn b (reached b v) v charge is some (reached_to b v)
 reaches b v charge (Some turn) is some = record {
   front = nothing_less b.front;
+  furthest = greatest b.furthest v;
   longest = greatest b.longest (held (turn +ℤ charge));
   some = then (pos 0) b.longest (int_max b.longest (held (turn +ℤ charge))) some (greatest b.longest (held (turn +ℤ charge)));
-  now = inr (turn, is, greatest_other b.longest (held (turn +ℤ charge)));
+  behind = greatest_other b.furthest v;
+  now = by (either b.furthest v);
   turn = λ n same. (turn, is, the_same (held (turn +ℤ charge)) n same);
 }
+  where
+    far : ℤ
+    far = int_max b.furthest v
+
+    long : ℤ
+    long = int_max b.longest (held (turn +ℤ charge))
+
+    by : (far ≡ b.furthest) ⊎ (far ≡ v)
+        → (far ≡ b.furthest) ⊎ ((far ≤ℤ b.front) ⊎ ((turn' : ℤ) × (b.turn ≡ Some turn') × (far ≡ v) × (held (turn' +ℤ charge) ≤ℤ long)))
+    by (inl same) = inl same
+    by (inr same) = inr (inr (turn, is, same, greatest_other b.longest (held (turn +ℤ charge))))
 
 module _ (q : State) (b c : Bounds) (p : ℕ) (e g : Entry) (charge : ℤ) (fair : IsFair q b) (runs : q.running ≡ Some p) (here : get q.runnable p ≡ Some e)
     (moved : g.v ≡ e.v +ℤ charge) (some : pos 0 ≤ℤ charge) (later : e.d ≤ℤ g.d) (timely : g.v ≤ℤ g.d)
@@ -126,33 +161,42 @@ module _ (q : State) (b c : Bounds) (p : ℕ) (e g : Entry) (charge : ℤ) (fair
   out_to : (v d a l : ℤ) → v ≤ℤ (d +ℤ a) → a ≤ℤ l → v ≤ℤ (d +ℤ l)
   out_to v d a l h k = omega (arith, ints, h, k)
 
-  to_others : (u : ℕ) (y : Entry) → get q.runnable u ≡ Some y → IsNear c g.v y.d
-  to_others u y at =
-      by re.now
-    where
-      by : (g.v ≤ℤ c.front) ⊎ ((turn : ℤ) × (b.turn ≡ Some turn) × (held (turn +ℤ charge) ≤ℤ c.longest)) → IsNear c g.v y.d
-      by (inl h) = inl h
-      by (inr h) = inr (out_to g.v y.d (held (h.0 +ℤ charge)) c.longest (in_turn h.0 h.1 u y at) h.2)
-
   past_none : (v d by : ℤ) → v ≤ℤ d → pos 0 ≤ℤ by → v ≤ℤ (d +ℤ by)
   past_none v d by h k = omega (arith, ints, h, k)
 
-  near : AreNear c r.runnable
-  near t u x y at there =
-      by (same_or_other t p) (same_or_other u p)
-    where
-      by : (t ≡ p) ⊎ (t ≡ p → ⊥) → (u ≡ p) ⊎ (u ≡ p → ⊥) → IsNear c x.v y.d
-      by (inl s) (inl k) =
-          subst (λ (z : Entry). IsNear c z.v y.d) (sym (itself t x s at))
-          (subst (λ (z : Entry). IsNear c g.v z.d) (sym (itself u y k there)) (inr (past_none g.v g.d c.longest timely re.some)))
-      by (inl s) (inr k) = subst (λ (z : Entry). IsNear c z.v y.d) (sym (itself t x s at)) (to_others u y (before u y k there))
-      by (inr s) (inl k) =
-          subst (λ (z : Entry). IsNear c x.v z.d) (sym (itself u y k there))
-          (near_later c x.v e.d g.d later (wide x.v e.d (fair.near t p x e (before t x s at) here)))
-      by (inr s) (inr k) = wide x.v y.d (fair.near t u x y (before t x s at) (before u y k there))
-
   some_turn : (turn : ℤ) → pos 0 ≤ℤ turn → pos 0 ≤ℤ (turn +ℤ charge)
   some_turn turn h = omega (arith, ints, h, some)
+
+  behind : AreBehind c r.runnable
+  behind t x at =
+      by (same_or_other t p)
+    where
+      by : (t ≡ p) ⊎ (t ≡ p → ⊥) → x.v ≤ℤ c.furthest
+      by (inl s) = subst (λ (z : Entry). z.v ≤ℤ c.furthest) (sym (itself t x s at)) re.behind
+      by (inr s) = then x.v b.furthest c.furthest (fair.behind t x (before t x s at)) re.furthest
+
+  -- the furthest is near each deadline that it was near, and who is charged in its turn is past it by no more than that
+  near_to : (d : ℤ) → IsNear b b.furthest d → ((turn : ℤ) → b.turn ≡ Some turn → g.v ≤ℤ (d +ℤ held (turn +ℤ charge))) → IsNear c c.furthest d
+  near_to d was in_turn_of =
+      by re.now
+    where
+      by : (c.furthest ≡ b.furthest) ⊎ ((c.furthest ≤ℤ c.front) ⊎ ((turn : ℤ) × (b.turn ≡ Some turn) × (c.furthest ≡ g.v) × (held (turn +ℤ charge) ≤ℤ c.longest)))
+          → IsNear c c.furthest d
+      by (inl same) = subst (λ (v : ℤ). IsNear c v d) (sym same) (wide b.furthest d was)
+      by (inr (inl past)) = inl past
+      by (inr (inr h)) =
+          inr (subst (λ (v : ℤ). v ≤ℤ (d +ℤ c.longest)) (sym h.2) (out_to g.v d (held (h.0 +ℤ charge)) c.longest (in_turn_of h.0 h.1) h.3))
+
+  near : AreNear c r.runnable
+  near t x at =
+      by (same_or_other t p)
+    where
+      by : (t ≡ p) ⊎ (t ≡ p → ⊥) → IsNear c c.furthest x.d
+      by (inl s) =
+          subst (λ (z : Entry). IsNear c c.furthest z.d) (sym (itself t x s at))
+          (near_to g.d (near_later b b.furthest e.d g.d later (fair.near p e here))
+          (λ turn is. past_none g.v g.d (held (turn +ℤ charge)) timely (held_some (turn +ℤ charge) (some_turn turn (fair.turn turn is).some))))
+      by (inr s) = near_to x.d (fair.near t x (before t x s at)) (λ turn is. in_turn turn is t x (before t x s at))
 
   turn_of : (n : ℤ) → c.turn ≡ Some n → IsTurn r n
   turn_of n is =
@@ -175,7 +219,7 @@ module _ (q : State) (b c : Bounds) (p : ℕ) (e g : Entry) (charge : ℤ) (fair
           by (inr k) = in_turn turn is u y (before u y k there)
 
   charge_keeps : IsFair r c
-  charge_keeps = record { due = due; longest = re.some; near = near; turn = turn_of }
+  charge_keeps = record { due = due; longest = re.some; behind = behind; near = near; turn = turn_of }
 
 charged_runtime : (e : Entry) (ns : ℕ) → (charged e ns).v ≡ aged e ns
 charged_runtime e ns =
@@ -259,10 +303,8 @@ module _ (q : State) (b : Bounds) (p : ℕ) (e : Entry) (fair : IsFair q b) (her
   yield_fair = record {
     due = λ t x at. let s = slower t x at in due_by x.v s.entry.v s.entry.d x.d s.same (fair.due t s.entry s.there) s.later;
     longest = fair.longest;
-    near = λ t u x y at there.
-        let s = slower t x at in
-        let k = slower u y there in
-        subst (λ (z : ℤ). IsNear b z y.d) (sym s.same) (near_later b s.entry.v k.entry.d y.d k.later (fair.near t u s.entry k.entry s.there k.there));
+    behind = λ t x at. let s = slower t x at in subst (λ (z : ℤ). z ≤ℤ b.furthest) (sym s.same) (fair.behind t s.entry s.there);
+    near = λ t x at. let s = slower t x at in near_later b b.furthest s.entry.d x.d s.later (fair.near t s.entry s.there);
     turn = λ turn is. record {
       some = (fair.turn turn is).some;
       past = λ t u x y runs at there.
@@ -313,10 +355,30 @@ lowered_turn v d a b by turn h k l = omega (arith, ints, h, k, l)
 less_by : (v a front by : ℤ) → v ≡ a -ℤ by → a ≤ℤ front → v ≤ℤ (front -ℤ by)
 less_by v a front by h k = omega (arith, ints, h, k)
 
-lowered_near : (v d a b by front longest : ℤ) → v ≤ℤ pos (2 ^ 60) → v ≡ a -ℤ by → d ≡ b -ℤ by → (a ≤ℤ front) ⊎ (a ≤ℤ (b +ℤ longest))
-    → (v ≤ℤ held (front -ℤ by)) ⊎ (v ≤ℤ (d +ℤ longest))
-lowered_near v d a b by front longest little h k (inl n) = inl (held_above v (front -ℤ by) little (less_by v a front by h n))
-lowered_near v d a b by front longest little h k (inr n) = inr (lowered_turn v d a b by longest h k n)
+lowered_no_further : (a b : ℤ) → a ≤ℤ b → held a ≤ℤ held b
+lowered_no_further (pos m) (pos n) h = omega (arith, ints, clamps, h)
+lowered_no_further (pos m) (negsuc n) h = absurd (omega (arith, ints, h))
+lowered_no_further (negsuc m) (pos n) h = omega (arith, ints, clamps)
+lowered_no_further (negsuc m) (negsuc n) h = omega (arith, ints, clamps, h)
+
+no_more_than : (z limit : ℤ) → neg_ℤ (pos (2 ^ 61)) ≤ℤ limit → z ≤ℤ limit → held z ≤ℤ limit
+no_more_than (pos n) limit low h = omega (arith, ints, clamps, h)
+no_more_than (negsuc n) limit low h = omega (arith, ints, clamps, low, h)
+
+no_earlier : (d longest : ℤ) → neg_ℤ (pos (2 ^ 60)) ≤ℤ d → pos 0 ≤ℤ longest → neg_ℤ (pos (2 ^ 61)) ≤ℤ (d +ℤ longest)
+no_earlier d longest low some = omega (arith, ints, low, some)
+
+lower : (a b by : ℤ) → a ≤ℤ b → (a -ℤ by) ≤ℤ (b -ℤ by)
+lower a b by h = omega (arith, ints, h)
+
+lowered_past : (a b d by longest : ℤ) → d ≡ b -ℤ by → a ≤ℤ (b +ℤ longest) → (a -ℤ by) ≤ℤ (d +ℤ longest)
+lowered_past a b d by longest k h = omega (arith, ints, k, h)
+
+lowered_near : (furthest d b by front longest : ℤ) → neg_ℤ (pos (2 ^ 60)) ≤ℤ d → pos 0 ≤ℤ longest → d ≡ b -ℤ by
+    → (furthest ≤ℤ front) ⊎ (furthest ≤ℤ (b +ℤ longest)) → (held (furthest -ℤ by) ≤ℤ held (front -ℤ by)) ⊎ (held (furthest -ℤ by) ≤ℤ (d +ℤ longest))
+lowered_near furthest d b by front longest low some k (inl n) = inl (lowered_no_further (furthest -ℤ by) (front -ℤ by) (lower furthest front by n))
+lowered_near furthest d b by front longest low some k (inr n) =
+    inr (no_more_than (furthest -ℤ by) (d +ℤ longest) (no_earlier d longest low some) (lowered_past furthest b d by longest k n))
 
 lowered_fair : (q r : State) (b : Bounds) (by : ℤ) → IsFair q b → r.runnable ≡ lowered_tasks by q.runnable → r.running ≡ q.running → AreInRange r.runnable
     → IsFair r (lowered b by)
@@ -326,11 +388,12 @@ lowered_fair q r b by fair is runs in_range =
     record {
       due = λ t x at. let s = was t x at in lowered_due x.v x.d s.entry.v s.entry.d by s.v s.d (fair.due t s.entry s.there);
       longest = fair.longest;
-      near = λ t u x y at there.
+      behind = λ t x at.
           let s = was t x at in
-          let k = was u y there in
-          lowered_near x.v y.d s.entry.v k.entry.d by b.front b.longest (small r.runnable in_range t x at).v s.v k.d
-          (fair.near t u s.entry k.entry s.there k.there);
+          held_above x.v (b.furthest -ℤ by) (small r.runnable in_range t x at).v (less_by x.v s.entry.v b.furthest by s.v (fair.behind t s.entry s.there));
+      near = λ t x at.
+          let s = was t x at in
+          lowered_near b.furthest x.d s.entry.d by b.front b.longest (small r.runnable in_range t x at).d fair.longest s.d (fair.near t s.entry s.there);
       turn = λ turn is. record {
         some = (fair.turn turn is).some;
         past = λ t u x y ran at there.
@@ -344,16 +407,13 @@ stayed : (q : State) (b : Bounds) → IsFair q b → IsKept q → IsFair q (lowe
 stayed q b fair kept = record {
   due = fair.due;
   longest = fair.longest;
-  near = λ t u x y at there. by x.v y.d (small q.runnable kept.in_range t x at).v (fair.near t u x y at there);
+  behind = λ t x at. held_above x.v (b.furthest -ℤ pos 0) (small q.runnable kept.in_range t x at).v (less_by x.v x.v b.furthest (pos 0) (not_lower x.v) (fair.behind t x at));
+  near = λ t x at. lowered_near b.furthest x.d x.d (pos 0) b.front b.longest (small q.runnable kept.in_range t x at).d fair.longest (not_lower x.d) (fair.near t x at);
   turn = fair.turn;
 }
   where
-    no_less_than : (v front : ℤ) → v ≤ℤ front → v ≤ℤ (front -ℤ pos 0)
-    no_less_than v front h = omega (arith, ints, h)
-
-    by : (v d : ℤ) → v ≤ℤ pos (2 ^ 60) → IsNear b v d → IsNear (lowered b (pos 0)) v d
-    by v d little (inl n) = inl (held_above v (b.front -ℤ pos 0) little (no_less_than v b.front n))
-    by v d little (inr n) = inr n
+    not_lower : (z : ℤ) → z ≡ z -ℤ pos 0
+    not_lower z = omega (arith, ints)
 
 pub rebase_keeps : (q : State) (b : Bounds) → IsFair q b → IsKept q → AreInRange (rebase q).1.runnable → IsFair (rebase q).1 (lowered b (rebase q).0)
 rebase_keeps q b fair kept =

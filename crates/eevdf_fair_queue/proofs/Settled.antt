@@ -7,10 +7,10 @@ use Rattle.eevdf_queue.specs.{declared.entry.Entry.Entry, State.State, Sums.Task
 use Rattle.eevdf_queue.specs.{Kept.IsKept, Kept.RunnerIsHere, Laws.PickIsFirst, Laws.PickOfNobody, Pick.pick_of, Pick.IsPick}
 use Rattle.eevdf_dozes.specs.Stretches.{NoneIsPastDue}
 use Rattle.eevdf_fair_queue.specs.{declared.bounds.Bounds.Bounds, declared.bounds.Mark.Mark}
-use Rattle.eevdf_fair_queue.specs.Bounds.{held, settled, settled_at}
-use Rattle.eevdf_fair_queue.specs.Fair.{IsNear, AreNear, IsTurn, IsFair, mark_of, mark_by, mark_of_pick, mark_at}
-use Rattle.eevdf_fair_queue.proofs.Nearness.{same_or_other, small, stays_near, near_before, near_later, behind_front, Becomes, becomes}
-use Rattle.eevdf_fair_queue.proofs.MeanTimes.{mean_near}
+use Rattle.eevdf_fair_queue.specs.Bounds.{fresh, reached, settled, settled_at}
+use Rattle.eevdf_fair_queue.specs.Fair.{IsNear, AreBehind, AreNear, IsTurn, IsFair, mark_of, mark_by, mark_of_pick, mark_at}
+use Rattle.eevdf_fair_queue.proofs.Nearness.{same_or_other, stays_near, near_later, IsReached, reaches, Becomes, becomes}
+use Rattle.eevdf_fair_queue.proofs.Orders.{nothing_less}
 
 -- one task may be another than before, all others are as they were, and nobody runs who didn't
 pub record IsOfOne (task : ℕ) (q r : State) : Type 0 where
@@ -20,17 +20,15 @@ pub record IsOfOne (task : ℕ) (q r : State) : Type 0 where
 
 -- how those that stay stand to a mark
 record IsMark (q : State) (b : Bounds) (task : ℕ) (m : Mark) : Type 0 where
-  early : (t : ℕ) (e : Entry) → get q.runnable t ≡ Some e → IsNear b e.v m.d
+  early : IsNear b b.furthest m.d
   ran : (turn : ℤ) → b.turn ≡ Some turn → (t : ℕ) (e : Entry) → q.running ≡ Some t → get q.runnable t ≡ Some e → e.v ≤ℤ (m.d +ℤ turn)
-  place : (t : ℕ) (e : Entry) → get q.runnable t ≡ Some e → IsNear b m.v e.d
   own : (turn : ℤ) → b.turn ≡ Some turn → q.running ≡ Some task → (t : ℕ) (e : Entry) → get q.runnable t ≡ Some e → m.v ≤ℤ (e.d +ℤ turn)
 
 marked_itself : (q : State) (b : Bounds) (task : ℕ) (o : Entry) → IsFair q b → get q.runnable task ≡ Some o
     → IsMark q b task (record { v = o.v; d = o.d })
 marked_itself q b task o fair here = record {
-  early = λ t e at. fair.near t task e o at here;
+  early = fair.near task o here;
   ran = λ turn is t e runs at. (fair.turn turn is).past t task e o runs at here;
-  place = λ t e at. fair.near task t o e here at;
   own = λ turn is runs t e at. (fair.turn turn is).past task t o e runs here at;
 }
 
@@ -44,9 +42,8 @@ not_running tasks (Some t) task here absent runs =
 marked_by_pick : (q : State) (b : Bounds) (task p : ℕ) (f : Entry) → IsKept q → IsFair q b → get q.runnable task ≡ None → get q.runnable p ≡ Some f
     → IsMark q b task (record { v = virtual_time q; d = f.d })
 marked_by_pick q b task p f kept fair absent here = record {
-  early = λ t e at. fair.near t p e f at here;
+  early = fair.near p f here;
   ran = λ turn is t e runs at. (fair.turn turn is).past t p e f runs at here;
-  place = λ t e at. mean_near q b t e e.d at (λ u x there. fair.near u t x e there at);
   own = λ turn is runs t e at. not_running q.runnable q.running task kept.sound.runs absent runs;
 }
 
@@ -68,8 +65,15 @@ module _ (task : ℕ) (q r : State) (b c : Bounds) (m : Mark) (e : Entry) (kept 
   same_longest : (x : ℤ) → x ≤ℤ x
   same_longest x = omega (arith, ints)
 
-  wide : (v d : ℤ) → IsNear b v d → IsNear c v d
-  wide v d = stays_near b c v d bs.front (subst (λ (x : ℤ). b.longest ≤ℤ x) (sym bs.longest) (same_longest b.longest))
+  wide : (d : ℤ) → IsNear b b.furthest d → IsNear c c.furthest d
+  wide d h =
+      by bs.now
+    where
+      by : (c.furthest ≡ b.furthest) ⊎ (c.furthest ≤ℤ c.front) → IsNear c c.furthest d
+      by (inl same) =
+          subst (λ (v : ℤ). IsNear c v d) (sym same)
+          (stays_near b c b.furthest d bs.front (subst (λ (x : ℤ). b.longest ≤ℤ x) (sym bs.longest) (same_longest b.longest)) h)
+      by (inr past) = inl past
 
   some_longest : pos 0 ≤ℤ c.longest
   some_longest = subst (λ (x : ℤ). pos 0 ≤ℤ x) (sym bs.longest) fair.longest
@@ -77,37 +81,36 @@ module _ (task : ℕ) (q r : State) (b c : Bounds) (m : Mark) (e : Entry) (kept 
   past_none : (v d by : ℤ) → v ≤ℤ d → pos 0 ≤ℤ by → v ≤ℤ (d +ℤ by)
   past_none v d by h k = omega (arith, ints, h, k)
 
-  -- how a task that stayed stands to the one that is anew, and that one to it
-  to_it : (t : ℕ) (x : Entry) → get q.runnable t ≡ Some x → IsNear c x.v e.d
-  to_it t x at =
-      by bs.deadline
-    where
-      by : (m.d ≤ℤ e.d) ⊎ (held (m.d +ℤ b.longest) ≤ℤ c.front) → IsNear c x.v e.d
-      by (inl h) = near_later c x.v m.d e.d h (wide x.v m.d (mark.early t x at))
-      by (inr h) = inl (behind_front b c x.v m.d (small q.runnable kept.in_range t x at).v bs.front h (mark.early t x at))
+  goes : (u v w : ℤ) → u ≤ℤ v → v ≤ℤ w → u ≤ℤ w
+  goes u v w h k = omega (arith, ints, h, k)
 
-  from_it : (t : ℕ) (x : Entry) → get q.runnable t ≡ Some x → IsNear c e.v x.d
-  from_it t x at =
-      by bs.place
+  behind : AreBehind c r.runnable
+  behind t x at =
+      by (same_or_other t task)
     where
-      by : (e.v ≤ℤ m.v) ⊎ (e.v ≤ℤ c.front) → IsNear c e.v x.d
-      by (inl h) = near_before c e.v m.v x.d h (wide m.v x.d (mark.place t x at))
-      by (inr h) = inl h
+      by : (t ≡ task) ⊎ (t ≡ task → ⊥) → x.v ≤ℤ c.furthest
+      by (inl s) = subst (λ (z : Entry). z.v ≤ℤ c.furthest) (sym (itself t x s at)) bs.behind
+      by (inr s) = goes x.v b.furthest c.furthest (fair.behind t x (before t x s at)) bs.furthest
 
   to_itself : e.v ≤ℤ e.d
   to_itself = due task e now
 
-  near : AreNear c r.runnable
-  near t u x y at here =
-      by (same_or_other t task) (same_or_other u task)
+  -- the furthest beside the deadline of the one that is anew
+  to_it : IsNear c c.furthest e.d
+  to_it =
+      by bs.deadline
     where
-      by : (t ≡ task) ⊎ (t ≡ task → ⊥) → (u ≡ task) ⊎ (u ≡ task → ⊥) → IsNear c x.v y.d
-      by (inl s) (inl k) =
-          subst (λ (z : Entry). IsNear c z.v y.d) (sym (itself t x s at))
-          (subst (λ (z : Entry). IsNear c e.v z.d) (sym (itself u y k here)) (inr (past_none e.v e.d c.longest to_itself some_longest)))
-      by (inl s) (inr k) = subst (λ (z : Entry). IsNear c z.v y.d) (sym (itself t x s at)) (from_it u y (before u y k here))
-      by (inr s) (inl k) = subst (λ (z : Entry). IsNear c x.v z.d) (sym (itself u y k here)) (to_it t x (before t x s at))
-      by (inr s) (inr k) = wide x.v y.d (fair.near t u x y (before t x s at) (before u y k here))
+      by : (m.d ≤ℤ e.d) ⊎ (c.furthest ≤ℤ c.front) → IsNear c c.furthest e.d
+      by (inl h) = near_later c c.furthest m.d e.d h (wide m.d mark.early)
+      by (inr h) = inl h
+
+  near : AreNear c r.runnable
+  near t x at =
+      by (same_or_other t task)
+    where
+      by : (t ≡ task) ⊎ (t ≡ task → ⊥) → IsNear c c.furthest x.d
+      by (inl s) = subst (λ (z : Entry). IsNear c c.furthest z.d) (sym (itself t x s at)) to_it
+      by (inr s) = wide x.d (fair.near t x (before t x s at))
 
   then : (v w d by : ℤ) → v ≤ℤ w → w ≤ℤ (d +ℤ by) → v ≤ℤ (d +ℤ by)
   then v w d by h k = omega (arith, ints, h, k)
@@ -142,6 +145,7 @@ module _ (task : ℕ) (q r : State) (b c : Bounds) (m : Mark) (e : Entry) (kept 
   anew = record {
     due = due;
     longest = some_longest;
+    behind = behind;
     near = near;
     turn = λ turn is. record { some = (fair.turn turn (bs.turn turn is).0).some; past = in_turn turn is };
   }
@@ -159,27 +163,30 @@ no_other task q r b e of_one none now t x at =
         let here : get q.runnable t ≡ Some x = sym (of_one.others t s) ∙ at in
         absurd (cc)
 
-nothing_past : (z : ℤ) → z ≤ℤ z
-nothing_past z = omega (arith, ints)
+no_turn : {A : Type 0} (turn : ℤ) (o : Option ℤ) → o ≡ None → o ≡ Some turn → A
+no_turn turn o none is = absurd (cc)
 
-no_turn : {A : Type 0} (turn : ℤ) → None ≡ Some turn → A
-no_turn turn is = absurd (cc)
-
-alone : (task : ℕ) (q r : State) (b : Bounds) (e : Entry) → IsOfOne task q r → IsFair q b → q.runnable ≡ empty → get r.runnable task ≡ Some e
-    → IsFair r (settled_at b None e)
-alone task q r b e of_one fair none now = record {
+alone : (task : ℕ) (q r : State) (b c : Bounds) (e : Entry) → IsOfOne task q r → IsFair q b → q.runnable ≡ empty → get r.runnable task ≡ Some e
+    → IsReached fresh c e.v → IsFair r c
+alone task q r b c e of_one fair none now re = record {
   due = of_one.due fair.due;
-  longest = nothing_past (pos 0);
-  near = λ t u x y at here. inl (subst (λ (z : Entry). z.v ≤ℤ e.v) (sym (no_other task q r b e of_one none now t x at)) (nothing_past e.v));
-  turn = λ turn is. no_turn turn is;
+  longest = subst (λ (z : ℤ). pos 0 ≤ℤ z) (sym re.longest) (nothing_less (pos 0));
+  behind = λ t x at. subst (λ (z : Entry). z.v ≤ℤ c.furthest) (sym (no_other task q r b e of_one none now t x at)) re.behind;
+  near = λ t x at. inl (by re.now);
+  turn = λ turn is. no_turn turn c.turn re.turn is;
 }
+  where
+    by : (c.furthest ≡ fresh.furthest) ⊎ (c.furthest ≤ℤ c.front) → c.furthest ≤ℤ c.front
+    by (inl same) = subst (λ (z : ℤ). z ≤ℤ c.front) (sym same) re.front
+    by (inr h) = h
 
 -- ---- a task that isn't runnable any more
 left : (task : ℕ) (q r : State) (b : Bounds) → IsOfOne task q r → IsFair q b → get r.runnable task ≡ None → IsFair r b
 left task q r b of_one fair gone = record {
   due = of_one.due fair.due;
   longest = fair.longest;
-  near = λ t u x y at here. fair.near t u x y (before t x at) (before u y here);
+  behind = λ t x at. fair.behind t x (before t x at);
+  near = λ t x at. fair.near t x (before t x at);
   turn = λ turn is. record {
     some = (fair.turn turn is).some;
     past = λ t u x y runs at here. (fair.turn turn is).past t u x y (of_one.runs t runs) (before t x at) (before u y here);
@@ -200,7 +207,8 @@ left task q r b of_one fair gone = record {
 module _ (first : PickIsFirst) (nobody : PickOfNobody) (task : ℕ) (q r : State) (b : Bounds) (kept : IsKept q) (of_one : IsOfOne task q r) (fair : IsFair q b) where
   by_mark : (m : Mark) (e : Entry) → get r.runnable task ≡ Some e → IsMark q b task m → IsFair r (settled_at b (Some m) e)
   by_mark m e now mark =
-      anew task q r b (settled_at b (Some m) e) m e kept of_one fair now mark (becomes b m e (int_lt m.v e.v) (int_lt e.d m.d) refl refl)
+      anew task q r b (settled_at b (Some m) e) m e kept of_one fair now mark
+      (becomes b (reached b e.v) m e (int_lt m.v e.v) (int_lt e.d m.d) (reaches b e.v) refl refl)
 
   by_entry : (p : ℕ) (e : Entry) (o : Option Entry) → get q.runnable task ≡ None → get r.runnable task ≡ Some e → IsPick q.runnable p
       → get q.runnable p ≡ o → IsFair r (settled_at b (mark_at (virtual_time q) o) e)
@@ -211,7 +219,7 @@ module _ (first : PickIsFirst) (nobody : PickOfNobody) (task : ℕ) (q r : State
   by_pick : (e : Entry) (o : Option ℕ) → get q.runnable task ≡ None → get r.runnable task ≡ Some e → pick_of q.runnable ≡ o
       → IsFair r (settled_at b (mark_of_pick q o) e)
   by_pick e None absent now is =
-      alone task q r b e of_one fair ((nobody q.runnable).0 (ap (λ (o : Option ℕ). is_some o) is)) now
+      alone task q r b (reached fresh e.v) e of_one fair ((nobody q.runnable).0 (ap (λ (o : Option ℕ). is_some o) is)) now (reaches fresh e.v)
   by_pick e (Some p) absent now is = by_entry p e (get q.runnable p) absent now (first q.runnable p is) refl
 
   by_before : (e : Entry) (o : Option Entry) → get r.runnable task ≡ Some e → get q.runnable task ≡ o → IsFair r (settled_at b (mark_by q o) e)

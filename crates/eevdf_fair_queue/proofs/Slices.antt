@@ -22,11 +22,8 @@ all_like q r b fair like ran = record {
       let e = like t x at in
       subst (λ (z : ℤ). z ≤ℤ x.d) (sym e.same_v) (subst (λ (z : ℤ). e.entry.v ≤ℤ z) (sym e.same_d) (fair.due t e.entry e.here));
   longest = fair.longest;
-  near = λ t u x y at there.
-      let e = like t x at in
-      let f = like u y there in
-      subst (λ (z : ℤ). IsNear b z y.d) (sym e.same_v)
-      (subst (λ (z : ℤ). IsNear b e.entry.v z) (sym f.same_d) (fair.near t u e.entry f.entry e.here f.here));
+  behind = λ t x at. let e = like t x at in subst (λ (z : ℤ). z ≤ℤ b.furthest) (sym e.same_v) (fair.behind t e.entry e.here);
+  near = λ t x at. let e = like t x at in subst (IsNear b b.furthest) (sym e.same_d) (fair.near t e.entry e.here);
   turn = λ turn is. record {
     some = (fair.turn turn is).some;
     past = λ t u x y runs at there.

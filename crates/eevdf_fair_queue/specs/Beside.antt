@@ -4,7 +4,7 @@ use Rattle.std.specs.Prelude.{◌≡◌, ℕ, ◌+◌, ◌*◌, ◌≤◌, ℤ, 
 use Rattle.std.specs.Coded.{Coded, code_by, coded×, coded_ℕ}
 use Rattle.std.specs.FinMap.{get}
 use Rattle.eevdf_weight.specs.{Weight.weight_of}
-use Rattle.eevdf_queue.specs.{declared.entry.Entry.Entry, State.State, Sums.Tasks, Sums.total_weight, declared.answers.TickAnswer.TickAnswer}
+use Rattle.eevdf_queue.specs.{declared.entry.Entry.Entry, State.State, Sums.total_weight, declared.answers.TickAnswer.TickAnswer}
 use Rattle.eevdf_queue.specs.{Tick.tick, Yield.yield_now, Rebase.rebase}
 use Rattle.eevdf_queue.specs.declared.answers.TickAnswer.TheVariants.{Charged, Idle, Range}
 use Rattle.eevdf_fair_queue.specs.{declared.share_clock.ShareMark.ShareMark}

@@ -11,15 +11,19 @@ held z = saturate_signed w64 z
 
 -- those of a queue without tasks
 abbrev pub fresh : Bounds
-fresh = record { front = neg_ℤ (pos (2 ^ 63)); longest = pos 0; turn = None }
+fresh = record { front = neg_ℤ (pos (2 ^ 63)); furthest = neg_ℤ (pos (2 ^ 63)); longest = pos 0; turn = None }
 
--- some task may have come to a virtual runtime out of its turn
-abbrev pub raised : Bounds → ℤ → Bounds
-raised b v = record b { front = int_max b.front v; turn = None }
+-- a task has come to a virtual runtime, out of its turn: the front comes there where that is past all tasks
+abbrev pub reached : Bounds → ℤ → Bounds
+reached b v = if int_lt b.furthest v then record b { front = int_max b.front v; furthest = v } else b
 
--- the turn that goes on has come to a charge
-abbrev pub grown : Bounds → ℤ → Bounds
-grown b turn = record b { longest = int_max b.longest turn; turn = Some turn }
+-- some task may be past a deadline that is earlier than it knew of: the front comes to the furthest
+abbrev pub advanced : Bounds → Bounds
+advanced b = record b { front = int_max b.front b.furthest; turn = None }
+
+-- the turn that goes on has come to a charge, and whoever runs to a virtual runtime
+abbrev pub grown : Bounds → ℤ → ℤ → Bounds
+grown b turn v = record b { furthest = int_max b.furthest v; longest = int_max b.longest turn; turn = Some turn }
 
 -- a turn begins
 abbrev pub picked : Bounds → Bounds
@@ -27,8 +31,8 @@ picked b = record b { turn = Some (pos 0) }
 
 -- whoever runs was charged, and has come to a virtual runtime
 abbrev pub ticked_by : Bounds → ℤ → ℤ → Option ℤ → Bounds
-ticked_by b charge v None = raised b v
-ticked_by b charge v (Some turn) = grown b (held (turn +ℤ charge))
+ticked_by b charge v None = reached b v
+ticked_by b charge v (Some turn) = grown b (held (turn +ℤ charge)) v
 
 abbrev pub ticked : Bounds → ℤ → ℤ → Bounds
 ticked b charge v = ticked_by b charge v b.turn
@@ -47,14 +51,14 @@ charged_from b ns (Some e) = ticked b (pos (charge_of ns (weight_of e.nice))) (a
 abbrev pub adopted : Bounds → Bool → Bounds
 adopted b is = if is then record b { turn = None } else b
 
--- a task that stands at an entry now, beside the mark of before: its deadline may be earlier, and its virtual runtime later
-abbrev pub raised_where : Bool → ℤ → Bounds → Bounds
-raised_where is v b = if is then raised b v else b
+abbrev pub advanced_where : Bool → Bounds → Bounds
+advanced_where is b = if is then advanced b else b
 
+-- a task that stands at an entry now, beside the mark of before: its deadline may be earlier, and its virtual runtime later. The turn is known
+-- no more where it is further than the mark
 abbrev pub settled_at : Bounds → Option Mark → Entry → Bounds
-settled_at b None e = record fresh { front = e.v }
-settled_at b (Some m) e =
-    raised_where (int_lt m.v e.v) e.v (raised_where (int_lt e.d m.d) (held (m.d +ℤ b.longest)) b)
+settled_at b None e = reached fresh e.v
+settled_at b (Some m) e = adopted (advanced_where (int_lt e.d m.d) (reached b e.v)) (int_lt m.v e.v)
 
 abbrev pub settled : Bounds → Option Mark → Option Entry → Bounds
 settled b m None = b
@@ -62,7 +66,7 @@ settled b m (Some e) = settled_at b m e
 
 -- all virtual times are lower by a number
 abbrev pub lowered : Bounds → ℤ → Bounds
-lowered b by = record b { front = held (b.front -ℤ by) }
+lowered b by = record b { front = held (b.front -ℤ by); furthest = held (b.furthest -ℤ by) }
 
 -- by how much the virtual time can be past a deadline
 abbrev pub late_by : Bounds → ℤ → ℤ

@@ -18,9 +18,13 @@ pub record FairView : Type 0 where
 abbrev pub IsNear : Bounds → ℤ → ℤ → Type 0
 IsNear b v d = (v ≤ℤ b.front) ⊎ (v ≤ℤ (d +ℤ b.longest))
 
--- no runnable task is past the front and, by more than the longest turn, past the deadline of any
+-- no runnable task is further than the furthest
+abbrev pub AreBehind : Bounds → Tasks → Type 0
+AreBehind b tasks = (t : ℕ) (e : Entry) → get tasks t ≡ Some e → e.v ≤ℤ b.furthest
+
+-- and the furthest isn't past the front and, by more than the longest turn, past the deadline of any
 abbrev pub AreNear : Bounds → Tasks → Type 0
-AreNear b tasks = (t u : ℕ) (e f : Entry) → get tasks t ≡ Some e → get tasks u ≡ Some f → IsNear b e.v f.d
+AreNear b tasks = (t : ℕ) (e : Entry) → get tasks t ≡ Some e → IsNear b b.furthest e.d
 
 -- where a turn is known, whoever runs is past no deadline by more than what it was charged
 pub record IsTurn (q : State) (turn : ℤ) : Type 0 where
@@ -31,6 +35,7 @@ pub record IsTurn (q : State) (turn : ℤ) : Type 0 where
 pub record IsFair (q : State) (b : Bounds) : Type 0 where
   pub due : NoneIsPastDue q.runnable
   pub longest : pos 0 ≤ℤ b.longest
+  pub behind : AreBehind b q.runnable
   pub near : AreNear b q.runnable
   pub turn : (turn : ℤ) → b.turn ≡ Some turn → IsTurn q turn
 
@@ -54,8 +59,8 @@ mark_of q task = mark_by q (get q.runnable task)
 -- how what is seen is told apart
 abbrev pub bounds_code : Coded Bounds
 bounds_code =
-    code_by (ℤ × (ℤ × Option ℤ)) (coded× coded_ℤ (coded× coded_ℤ (coded_option coded_ℤ)))
-    (λ b. (b.front, (b.longest, b.turn))) (λ p. record { front = p.0; longest = p.1.0; turn = p.1.1 }) (λ _. refl)
+    code_by (ℤ × (ℤ × (ℤ × Option ℤ))) (coded× coded_ℤ (coded× coded_ℤ (coded× coded_ℤ (coded_option coded_ℤ))))
+    (λ b. (b.front, (b.furthest, (b.longest, b.turn)))) (λ p. record { front = p.0; furthest = p.1.0; longest = p.1.1.0; turn = p.1.1.1 }) (λ _. refl)
 
 abbrev pub fair_view_code : Coded FairView
 fair_view_code =

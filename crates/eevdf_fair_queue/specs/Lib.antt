@@ -1,6 +1,7 @@
 pub mod Bounds
 pub mod Fair
 pub mod Lateness
+pub mod Dozers
 pub mod InTime
 pub mod Sleeping
 pub mod Measured

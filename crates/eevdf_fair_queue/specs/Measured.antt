@@ -17,14 +17,15 @@ abbrev pub past_by : Option Mark → ℤ
 past_by None = pos 0
 past_by (Some m) = int_max (pos 0) (held (m.v -ℤ m.d))
 
--- no task is past another's deadline by more than this
-abbrev pub greatest_past : Tasks → ℤ
-greatest_past tasks = past_by (extremes tasks)
+abbrev pub furthest_of : Option Mark → ℤ
+furthest_of None = neg_ℤ (pos (2 ^ 63))
+furthest_of (Some m) = m.v
 
--- there is no front, and no task is past another's deadline by more than a number; a turn goes on as it did
-abbrev pub within : Bounds → ℤ → Bounds
-within b longest = record b { front = neg_ℤ (pos (2 ^ 63)); longest = longest }
+-- there is no front; no task is further than the latest virtual runtime, and none past another's deadline by more than that is past the
+-- earliest; a turn goes on as it did
+abbrev pub within : Bounds → Option Mark → Bounds
+within b o = record b { front = neg_ℤ (pos (2 ^ 63)); furthest = furthest_of o; longest = past_by o }
 
 -- the bounds of a queue as it stands
 abbrev pub measured : Bounds → State → Bounds
-measured b q = within b (greatest_past q.runnable)
+measured b q = within b (extremes q.runnable)

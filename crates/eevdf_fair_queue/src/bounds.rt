@@ -14,17 +14,20 @@ mod turns;
 
 use eevdf_queue::{Entry, Queue, TaskId};
 
-/// How far the runnable tasks of a queue can be past one another's deadlines, in virtual time: no virtual runtime is past the front
-/// and, by more than the longest turn, past any deadline.
+/// How far the runnable tasks of a queue can be past one another's deadlines, in virtual time: no virtual runtime is past the furthest, and
+/// that isn't past the front and, by more than the longest turn, past any deadline.
 #[derive(Clone, Copy, PartialEq, Eq, Debug)]
 pub struct Bounds {
-    /// A virtual time that some task may have come to out of its turn. Nobody who stands before it is late.
+    /// A virtual time that some task may have come to out of its turn. Who is due before it can be late by
+    /// as much.
     pub front: i64,
+    /// How far a task has come since the queue was empty, or since the bounds were measured: no virtual runtime is greater.
+    pub furthest: i64,
     /// What the longest turn was charged since the queue was empty, or since the bounds were measured; no less than by how much a task was past
     /// a deadline then.
     pub longest: i64,
     /// What was charged since the last pick, as long as the task picked is past no deadline by more than that: `None` from the moment on
-    /// at which another task comes before it.
+    /// at which another task comes before it or past the virtual time, or at which a task is adopted or comes to an empty queue.
     pub turn: Option<i64>,
 }
 
@@ -66,6 +69,7 @@ impl Bounds {
     {
         Bounds {
             front: i64::MIN,
+            furthest: i64::MIN,
             longest: 0,
             turn: None,
         }
@@ -98,8 +102,8 @@ impl Bounds {
         ensures { self.new ≡ bounds.ticked self.old charge v }
     {
         match self.turn {
-            None => *self = self.raised(v),
-            Some(turn) => self.grow(turn.saturating_add(charge)),
+            None => *self = self.reached(v),
+            Some(turn) => self.grow(turn.saturating_add(charge), v),
         }
     }
 
@@ -112,13 +116,11 @@ impl Bounds {
             return self;
         };
         let Some(mark) = mark else {
-            return Bounds {
-                front: entry.v,
-                ..Bounds::fresh()
-            };
+            return Bounds::fresh().reached(entry.v);
         };
-        self.raised_where(entry.d < mark.d, mark.d.saturating_add(self.longest))
-            .raised_where(mark.v < entry.v, entry.v)
+        self.reached(entry.v)
+            .advanced_where(entry.d < mark.d)
+            .adopted(mark.v < entry.v)
     }
 
     /// Those after all virtual times were lowered by a number.
@@ -127,6 +129,7 @@ impl Bounds {
     {
         Bounds {
             front: self.front.saturating_sub(by),
+            furthest: self.furthest.saturating_sub(by),
             ..self
         }
     }
@@ -138,28 +141,41 @@ impl Bounds {
         greater(self.longest, self.front.saturating_sub(deadline))
     }
 
-    /// Those where a task may have come to a virtual runtime out of its turn.
-    fn raised(self, v: i64) -> Bounds
-        ensures { result ≡ bounds.raised self v }
+    /// Those where a task has come to a virtual runtime out of its turn.
+    fn reached(self, v: i64) -> Bounds
+        ensures { result ≡ bounds.reached self v }
     {
-        Bounds {
-            front: greater(self.front, v),
-            turn: None,
-            ..self
+        if self.furthest < v {
+            Bounds {
+                front: greater(self.front, v),
+                furthest: v,
+                ..self
+            }
+        } else {
+            self
         }
     }
 
-    /// The same where that is so.
-    fn raised_where(self, is: bool, v: i64) -> Bounds
-        ensures { result ≡ bounds.raised_where is v self }
+    /// Those where the furthest task may be past a deadline that is earlier than those of before, if that is so.
+    fn advanced_where(self, is: bool) -> Bounds
+        ensures { result ≡ bounds.advanced_where is self }
     {
-        if is { self.raised(v) } else { self }
+        if is {
+            Bounds {
+                front: greater(self.front, self.furthest),
+                turn: None,
+                ..self
+            }
+        } else {
+            self
+        }
     }
 
-    /// Makes them those where the turn that goes on has come to a charge.
-    fn grow(&mut self, turn: i64)
-        ensures { self.new ≡ bounds.grown self.old turn }
+    /// Makes them those where the turn that goes on has come to a charge, and whoever runs to a virtual runtime.
+    fn grow(&mut self, turn: i64, v: i64)
+        ensures { self.new ≡ bounds.grown self.old turn v }
     {
+        self.furthest = greater(self.furthest, v);
         self.longest = greater(self.longest, turn);
         self.turn = Some(turn);
     }

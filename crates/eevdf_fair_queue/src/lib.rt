@@ -2,8 +2,8 @@
 //!
 //! A [`FairQueue`] is a queue with a few words beside it, its [`Bounds`], which each of its calls keeps. They say at every moment by
 //! how much the virtual time can be past the deadline of a pending request: by the longest turn that was run, however many tasks come,
-//! leave, sleep and wake, but for what a task has moved the front that came before the pick, as one can that wakes, or past the virtual
-//! time. Nobody says beforehand how long ticks are. A `Queue` without it costs nothing more.
+//! leave, sleep and wake, but for what a task has moved the front that came before the pick or past the furthest, or that ran while no turn
+//! was known. Nobody says beforehand how long ticks are. A `Queue` without it costs nothing more.
 #![tactic(auto)]
 
 mod bounds;

@@ -51,6 +51,7 @@ fn a_long_turn_is_the_bound(rt: HostRuntime) {
         queue.bounds(),
         Bounds {
             front: 0,
+            furthest: 10_000_000,
             longest: 10_000_000,
             turn: Some(10_000_000)
         }
@@ -60,14 +61,15 @@ fn a_long_turn_is_the_bound(rt: HostRuntime) {
         queue.bounds(),
         Bounds {
             front: -5_000_000,
+            furthest: 5_000_000,
             longest: 10_000_000,
             turn: Some(10_000_000)
         }
     );
 }
 
-/// A task of a short slice comes while another one runs its turn. It is due before the pick, so the front comes to the pick's deadline and
-/// the longest turn, and the turn isn't known until the next pick.
+/// A task of a short slice comes while another one runs its turn. It is due before the pick, so the front comes to the furthest task, and the
+/// turn isn't known until the next pick. As the other one runs on, the front goes with it.
 #[test]
 fn one_that_comes_before_the_pick_moves_the_front(rt: HostRuntime) {
     let rt = &rt;
@@ -75,13 +77,16 @@ fn one_that_comes_before_the_pick_moves_the_front(rt: HostRuntime) {
     assert_eq!(rt;
         queue.bounds(),
         Bounds {
-            front: 4_000_000,
+            front: 1_000_000,
+            furthest: 1_000_000,
             longest: 1_000_000,
             turn: None
         }
     );
+    assert_eq!(rt; queue.lateness_bound(), 1_000_000);
     queue.tick(ns(rt, 5_000_000));
     assert_eq!(rt; queue.bounds().front, 6_000_000);
+    assert_eq!(rt; queue.bounds().furthest, 6_000_000);
     assert_eq!(rt; queue.pick(), Some(task(rt, 1)));
     assert_eq!(rt; queue.bounds().turn, Some(0));
 }
@@ -91,12 +96,38 @@ fn one_that_comes_before_the_pick_moves_the_front(rt: HostRuntime) {
 fn a_queue_heals(rt: HostRuntime) {
     let rt = &rt;
     let mut queue = with_one_before_the_pick(rt, rt.alloc());
-    assert_eq!(rt; queue.lateness_bound(), 3_000_000);
+    queue.tick(ns(rt, 5_000_000));
+    assert_eq!(rt; queue.lateness_bound(), 4_900_000);
     for _turn in 0..10 {
         queue.pick();
         queue.tick(ns(rt, 1_000_000));
     }
     assert_eq!(rt; queue.lateness_bound(), 1_000_000);
+}
+
+/// Two tasks of slices of 10 ms and one of 0.1 ms run in turns of 1 ms. The third dozes off after each of its turns and wakes in the middle of
+/// the next one, before the pick: the bound of the others stays the longest turn.
+#[test]
+fn a_doze_and_its_wake_leave_the_bound(rt: HostRuntime) {
+    let rt = &rt;
+    let long = Slice::new(10_000_000).expect(rt, "a slice");
+    let mut queue = FairQueue::open();
+    for number in 0..2 {
+        join(rt, rt.alloc(), &mut queue, number, long);
+    }
+    join(rt, rt.alloc(), &mut queue, 2, Slice::MIN);
+    for _turn in 0..100 {
+        let picked = queue.pick();
+        queue.tick(ns(rt, 500_000));
+        queue.wake(task(rt, 2));
+        queue.tick(ns(rt, 500_000));
+        if picked == Some(task(rt, 2)) {
+            queue.doze(task(rt, 2));
+        }
+        for number in 0..2 {
+            assert_eq!(rt; queue.lateness_bound_of(task(rt, number)), Some(1_000_000));
+        }
+    }
 }
 
 /// A turn of 10 ms counts while the queue isn't empty, and no more where the bounds are measured: then task 0 is at 10000000 and task 1, which
@@ -120,6 +151,7 @@ fn a_long_turn_is_forgotten_where_bounds_are_measured(rt: HostRuntime) {
         queue.bounds(),
         Bounds {
             front: i64::MIN,
+            furthest: 10_000_000,
             longest: 0,
             turn: Some(3_000_000)
         }
@@ -152,6 +184,7 @@ fn any_queue_can_be_measured(rt: HostRuntime) {
         queue.bounds(),
         Bounds {
             front: i64::MIN,
+            furthest: 10_000_000,
             longest: 7_000_000,
             turn: None
         }

@@ -4,7 +4,7 @@ ghost use Rattle.std.specs.Prelude.{◌≡◌, ◌≤ℤ◌};
 ghost use Rattle.eevdf_fair_queue.specs.Bounds as bounds;
 ghost use Rattle.eevdf_fair_queue.specs.Fair.{IsFair};
 ghost use Rattle.eevdf_fair_queue.specs.Lateness.{lateness_bound};
-ghost use Rattle.eevdf_fair_queue.specs.Measured.{beside, greatest_past, measured, within};
+ghost use Rattle.eevdf_fair_queue.specs.Measured.{beside, extremes, measured, within};
 
 use crate::bounds::{Bounds, Mark, greater, lesser};
 use eevdf_queue::laws::{every_queue, pick_is_first};
@@ -17,7 +17,7 @@ impl Bounds {
         ensures fair { IsFair queue.now.state result }
     {
         every_queue(queue);
-        Bounds::fresh().within(greatest_past(queue))
+        Bounds::fresh().within(extremes(queue))
     }
 
     /// Makes them those of the queue as it stands, so that a long turn of before counts for no more than is still to be seen of it. The bound
@@ -30,33 +30,35 @@ impl Bounds {
     {
         pick_is_first();
         every_queue(queue);
-        *self = self.within(greatest_past(queue));
+        *self = self.within(extremes(queue));
     }
 
-    /// Those where no task is past another's deadline by more than a number. A turn goes on.
-    fn within(self, longest: i64) -> Bounds
-        ensures { result ≡ within self longest }
+    /// Those of tasks of which these are the latest virtual runtime and the earliest deadline. A turn goes on.
+    fn within(self, extremes: Option<Mark>) -> Bounds
+        ensures { result ≡ within self extremes }
     {
+        let (furthest, longest) = match extremes {
+            None => (i64::MIN, 0),
+            Some(mark) => (mark.v, greater(0, mark.v.saturating_sub(mark.d))),
+        };
         Bounds {
             front: i64::MIN,
+            furthest,
             longest,
             turn: self.turn,
         }
     }
 }
 
-/// By how much a runnable task is past another's deadline at most, or 0.
-fn greatest_past(queue: &Queue) -> i64
-    ensures { result ≡ greatest_past queue.now.state.runnable }
+/// The latest virtual runtime of the runnable tasks, and the earliest deadline.
+fn extremes(queue: &Queue) -> Option<Mark>
+    ensures { result ≡ extremes queue.now.state.runnable }
 {
     let mut extremes = None;
     for task in queue.runnable_tasks() {
         extremes = Some(beside(extremes, task));
     }
-    match extremes {
-        None => 0,
-        Some(mark) => greater(0, mark.v.saturating_sub(mark.d)),
-    }
+    extremes
 }
 
 /// The later virtual runtime and the earlier deadline.

@@ -67,7 +67,7 @@ impl Bounds {
         here
     }
 
-    /// Lowers all virtual times as [`Queue::rebase`](eevdf_queue::Queue::rebase) does, and the front with them.
+    /// Lowers all virtual times as [`Queue::rebase`](eevdf_queue::Queue::rebase) does, and the front and the furthest with them.
     pub fn rebase(&mut self, queue: &mut Queue) -> i64
         ensures by { result ≡ (rebases.rebase queue.old.state).0 }
         ensures after { queue.new.state ≡ (rebases.rebase queue.old.state).1 }

@@ -101,7 +101,7 @@ impl FairQueue {
         self.queue.yield_now()
     }
 
-    /// Lowers all virtual times as [`Queue::rebase`](eevdf_queue::Queue::rebase) does, and the front with them.
+    /// Lowers all virtual times as [`Queue::rebase`](eevdf_queue::Queue::rebase) does, and the front and the furthest with them.
     pub fn rebase(&mut self) -> i64
         ensures by { result ≡ (rebases.rebase self.old.queue.state).0 }
         ensures after { self.new.queue.state ≡ (rebases.rebase self.old.queue.state).1 }

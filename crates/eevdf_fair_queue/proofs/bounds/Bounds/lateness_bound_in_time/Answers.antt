@@ -1,6 +1,5 @@
 use Rattle.std.proofs.Common.{ℕ, ℤ, SFits, w64, sym, ap, subst, ◌∙◌, rules}
 use Rattle.std.proofs.lemmas.Int.{to_z-of_z}
-use Rattle.eevdf_queue.specs.Sums.{total_weight}
 use Rattle.eevdf_fair_queue.specs.InTime.{NoneIsLaterInTime, in_time}
 use Rattle.eevdf_fair_queue.proofs.InTime.{none_later_in_time}
 use Rattle.eevdf_fair_queue.proofs.bounds.Bounds.lateness_bound_in_time.Goals as goal

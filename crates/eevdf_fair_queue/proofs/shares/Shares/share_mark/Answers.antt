@@ -1,4 +1,4 @@
-use Rattle.std.proofs.Common.{◌≡◌, ℕ, ℤ, Option, Some, sym, subst, ap, ◌∙◌, rules}
+use Rattle.std.proofs.Common.{◌≡◌, ℤ, Option, Some, sym, subst, ap, ◌∙◌, rules}
 use Rattle.std.specs.{Prelude.IfSome, FinMap.get}
 use mir.Syntax.{w64}
 use mir.Val.{SFits}
