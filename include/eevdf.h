@@ -19,9 +19,9 @@
  * keeps a pointer to them, and none reads a queue's bytes but those that are given it.
  *
  * MOVING. Between two calls a queue, a hand, bounds or shares may be moved: the bytes are copied to
- * others of the caller's own, aligned to 16. It is the same queue or hand there, or they are the
- * same bounds or shares. The bytes that were left are the caller's again, for anything; no call is
- * given them as what they were any more, until they are opened anew.
+ * others of the caller's own, aligned to 16, bounds to 8. It is the same queue or hand there, or
+ * they are the same bounds or shares. The bytes that were left are the caller's again, for
+ * anything; no call is given them as what they were any more, until they are opened anew.
  *
  * WHAT C MUST KEEP. Each call tests its numbers, and who is here and who runs. It can't test its
  * pointers, so these are left to C:
@@ -33,8 +33,8 @@
  *     same holds of a hand from eevdf_hand_open to eevdf_hand_close;
  *   - `bounds` points to bounds that eevdf_fair_open has opened, and `shares` to shares that
  *     eevdf_fair_share_open has, and nobody else uses them during the call; where they are opened,
- *     to so many bytes of the caller's own, aligned to 16, that are no part of a queue, a hand or
- *     one another;
+ *     to so many bytes of the caller's own, aligned to 16, bounds to 8, that are no part of a
+ *     queue, a hand or one another;
  *   - `block` points to an eevdf_block of the caller's own that nobody else uses during the call;
  *     its `at` is NULL, or leads to EEVDF_TASK_SIZE bytes of the caller's own, aligned to 8;
  *   - `out`, `time`, `lag`, `by`, `mark` and `ns` point to an object of the caller's own that is no
@@ -134,7 +134,7 @@ extern "C" {
  * MAJOR where a program may have to be changed; as long as it is 0, MINOR stands for it too.
  */
 #define EEVDF_VERSION_MAJOR 0
-#define EEVDF_VERSION_MINOR 7
+#define EEVDF_VERSION_MINOR 8
 #define EEVDF_VERSION_PATCH 0
 #define EEVDF_VERSION \
 	(EEVDF_VERSION_MAJOR * 1000000 + EEVDF_VERSION_MINOR * 1000 + EEVDF_VERSION_PATCH)
@@ -142,7 +142,7 @@ extern "C" {
 /* The bytes of a queue, a hand, bounds, shares, and the block of memory that each task has. */
 #define EEVDF_QUEUE_SIZE 24688
 #define EEVDF_HAND_SIZE 16
-#define EEVDF_BOUNDS_SIZE 32
+#define EEVDF_BOUNDS_SIZE 40
 #define EEVDF_SHARES_SIZE 64
 #define EEVDF_TASK_SIZE 152
 
@@ -186,7 +186,7 @@ typedef struct eevdf_hand {
  * deadlines. The calls that begin with eevdf_fair_ keep them.
  */
 typedef struct eevdf_bounds {
-	EEVDF_ALIGNED unsigned char bytes[EEVDF_BOUNDS_SIZE];
+	int64_t words[EEVDF_BOUNDS_SIZE / 8];
 } eevdf_bounds;
 
 /*
@@ -638,8 +638,10 @@ int64_t eevdf_pull_task(eevdf_queue *to, eevdf_queue *from, uint64_t task);
  * just opened. Takes no memory, and bounds needn't be closed.
  * Bounds say at every moment by how much the virtual time can be past the deadline of a pending
  * request, however many tasks come, leave, sleep and wake: by the most that a turn was charged
- * since the queue was empty, but for what a task has moved the front that came before the pick, as
- * one can that wakes, or past the virtual time. Nobody says beforehand how long ticks are.
+ * since the queue was empty, but for what a task has moved the front that came before the pick, or
+ * past all that were there since then, or that ran on while no turn was known: after such a task
+ * has come, or one past the virtual time, and after eevdf_fair_run, none is until the next pick.
+ * Nobody says beforehand how long ticks are.
  * They are true as long as each change that could make them untrue is made through the calls below:
  * these stand for eevdf_pick, eevdf_run, eevdf_tick, eevdf_admit, eevdf_admit_in, eevdf_put,
  * eevdf_wake, eevdf_renice, eevdf_set and eevdf_rebase, do to the queue what those do, and answer

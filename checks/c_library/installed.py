@@ -71,7 +71,7 @@ def check_cmake(tools, prefix):
     refused = built("0.2")
     is_found = refused and "eevdf-config.cmake, version:" in refused
     tools.checks.look("no program by CMake for another version", None if is_found else refused or "it is built")
-    fault = built("0.7")
+    fault = built("0.8")
     tools.checks.look(name, fault or other_output(run([folder / "out" / "first"]), FIRST.with_suffix(".out").read_text()))
 
 

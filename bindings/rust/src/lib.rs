@@ -92,7 +92,7 @@ pub use queue::{Entry, Queue, Sleeper};
 use memory::{BoundsMemory, SharesMemory};
 
 /// The version of the library that the crate is written for.
-const VERSION: i64 = 7000;
+const VERSION: i64 = 8000;
 
 /// Of a version, the two numbers that say which programs run over it.
 const fn series(version: i64) -> i64 {

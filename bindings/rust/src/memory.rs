@@ -18,9 +18,9 @@ pub struct QueueMemory(pub(crate) MaybeUninit<[u8; 24688]>);
 #[repr(C, align(16))]
 pub struct HandMemory(pub(crate) MaybeUninit<[u8; 16]>);
 
-/// The bytes of a queue's bounds: 32.
-#[repr(C, align(16))]
-pub(crate) struct BoundsMemory(pub(crate) MaybeUninit<[u8; 32]>);
+/// The bytes of a queue's bounds: 40.
+#[repr(C, align(8))]
+pub(crate) struct BoundsMemory(pub(crate) MaybeUninit<[u8; 40]>);
 
 /// The bytes of what a queue keeps of the shares of its tasks: 64.
 #[repr(C, align(16))]

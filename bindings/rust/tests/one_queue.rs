@@ -122,7 +122,7 @@ fn all_other_calls_do_what_they_say() {
     assert_eq!(queue.load(), 1024 + 335);
     queue.end(7).unwrap();
     assert_eq!(queue.len(), 1);
-    assert_eq!(eevdf::version(), 7000);
+    assert_eq!(eevdf::version(), 8000);
 }
 
 #[test]

@@ -17,7 +17,7 @@ pub const NO_MEMORY: &[u8] = b"fault: memory\n";
 pub const NO_WRITE: &[u8] = b"fault: writing\n";
 
 /// The version of the programs and of the library, MAJOR.MINOR.PATCH.
-pub const VERSION: &str = "0.7.0";
+pub const VERSION: &str = "0.8.0";
 
 /// What a program says of itself.
 #[derive(Clone, Copy)]

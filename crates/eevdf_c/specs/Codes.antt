@@ -28,6 +28,6 @@ invalid = negsuc 21
 abbrev pub out_of_range : ℤ
 out_of_range = negsuc 33
 
--- the version 0.7.0: major times a million, minor times a thousand, and patch
+-- the version 0.8.0: major times a million, minor times a thousand, and patch
 abbrev pub version : ℤ
-version = pos 7000
+version = pos 8000

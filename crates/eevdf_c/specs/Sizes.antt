@@ -8,7 +8,7 @@ abbrev pub hand_size : ℤ
 hand_size = pos 16
 
 abbrev pub bounds_size : ℤ
-bounds_size = pos 32
+bounds_size = pos 40
 
 abbrev pub shares_size : ℤ
 shares_size = pos 64

@@ -31,5 +31,5 @@ impl FairBounds {
     }
 }
 
-// the bytes that the header for C gives bounds, which it aligns to 16
-const _: () = prove!(size_of::<FairBounds>() == 32 && align_of::<FairBounds>() == 8);
+// the bytes that the header for C gives bounds, in words of eight
+const _: () = prove!(size_of::<FairBounds>() == 40 && align_of::<FairBounds>() == 8);
