@@ -125,15 +125,13 @@ def find_imports(source, export):
 
 
 def read_exports(folder):
-    """The exports of a folder of sources that make one call, in their order; the names of the others; and where the types stand."""
-    found, others, types = [], [], {}
+    """The exports of a folder of sources that make one call, in their order, and the names of the others."""
+    found, others = [], []
     for file in sorted(folder.glob("*.rt")):
         source = file.read_text()
-        for path, name in re.findall(r"^use crate::((?:\w+::)+)(\w+);", source, re.M):
-            types[name] = path.replace("::", ".") + name
         for it in EXPORT.finditer(source):
             if export := read_export(it, source, file.stem):
                 found.append(export)
             else:
                 others.append(it[1])
-    return found, others, types
+    return found, others

@@ -9,7 +9,6 @@ from pathlib import Path
 
 from exports import read_exports
 from proof import Proof
-from statement import I64
 
 ROOT = Path(__file__).resolve().parents[2]
 CRATE = "eevdf_c"
@@ -21,10 +20,11 @@ BY_HAND = {"eevdf_open", "eevdf_hand_open", "eevdf_fair_open", "eevdf_fair_share
 def names_of_steps(folder):
     """What proofs/Steps.antt passes on."""
     text = (folder / "proofs/Steps.antt").read_text()
-    return [n.strip() for names in re.findall(r"^pub use \S+\.\{(.*)\}$", text, re.M) for n in names.split(",")]
+    passed_on = [n for names in re.findall(r"^pub use \S+\.\{(.*)\}$", text, re.M) for n in names.split(",")]
+    return [n.split(" as ")[-1].strip() for n in passed_on]
 
 
-def imports(proof, text, steps, types):
+def imports(proof, text, steps):
     """The lines that bring in what the proof says."""
     export = proof.export
     own = f"exports.{export.module}.{export.name}"
@@ -36,11 +36,6 @@ def imports(proof, text, steps, types):
         left = [n for n in names if n not in used]
         lines += [f"use {path}.{{{', '.join(left)}}}"] * bool(left)
     lines += [f"use {path} as {alias}" for path, alias in export.aliases]
-    for pointee, row in proof.rows.items():
-        if row != I64:
-            lines.append(f"use Rattle.{CRATE}.specs.contracts.{types[pointee]}.{{the_row as {row}}}")
-        if f"{pointee}-laws" in text:
-            lines.append(f"use Rattle.{CRATE}.proofs.{types[pointee]}.TheLaws.{{the_row_laws as {pointee}-laws}}")
     return [
         *lines,
         f"use Rattle.{CRATE}.specs.contracts.{own} as export",
@@ -55,14 +50,14 @@ def written():
     """Each proof's file and its text."""
     folder = ROOT / "crates" / CRATE
     steps = names_of_steps(folder)
-    found, others, types = read_exports(folder / "src/exports")
+    found, others = read_exports(folder / "src/exports")
     if set(others) != BY_HAND:
         sys.exit(f"not one call of `calls`, as each export but {', '.join(sorted(BY_HAND))} has to be: {', '.join(others)}")
     for export in found:
         proof = Proof(export, CRATE)
         text = proof.text()
         file = folder / "proofs/exports" / export.module / export.name / "Proof.antt"
-        yield file, HEAD + "\n".join([*imports(proof, text, steps, types), "", text])
+        yield file, HEAD + "\n".join([*imports(proof, text, steps), "", text])
 
 
 def main():

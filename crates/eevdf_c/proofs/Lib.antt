@@ -1,4 +1,8 @@
 pub mod Steps
+mod Passed
+mod Lending
+mod Exported
+mod Moved
 mod Emptied
 mod Few
 mod TaskCodes

@@ -1,43 +1,27 @@
 -- Written by tools/export_proofs/write.py.
-use Rattle.eevdf_c.proofs.Steps.{◌≡◌, ℕ, List, [], ◌∷◌, refl, ap, proved, full_share, id⊢, ftrue, flft, flent, fres, named, vptr, vunit, fact, tables, WpFn, ‵, raw, keep, feq_l, feq_i, ◌⊛◌, some, later, prop, ◌$◌, ◌∵◌, !, qed, done, move, drop, use1, use2, use3, split, join, fsplit, rewrite, regoal, pick, await, suffices, group, enter, unit_lit, of_opd, addr, stop, no_more, and_then, returns, alloc_all, pass_all, free_all, look_at, get, through, sets, lands_as, Body, lft_new, lft_end, unit, yes, flat, lends_ref, ref_back, mem, Ptr, RawPtr, block_ptr, lies_at, in_a_block, rawptr_vals, rawptr_Tells, MutRef, plain, types_at, nothing, only, heard, calls_at, lasts, on_entry, triple_of, framed, Stays, walk_of, stay_dropped, Goes-dropped, ends_at}
+use Rattle.eevdf_c.proofs.Steps.{List, [], ◌∷◌, refl, ◌$◌, !, done, enter, unit_lit, of_opd, addr, stop, no_more, and_then, returns, alloc_all, pass_all, free_all, look_at, get, through, sets, lands_as, Passed, lent, nothing_told, lifetimes, wholes, references, stored, passed, Contract_of, calls_on, exported, Hand-row}
 use Rattle.std.specs.Prelude.{None}
-use Rattle.eevdf_c.specs.contracts.hand.Hand.{the_row as Hand-row}
 use Rattle.eevdf_c.specs.contracts.exports.hands.eevdf_hand_close as export
 use Rattle.eevdf_c.proofs.exports.hands.eevdf_hand_close.Statement.{statement}
 use Rattle.eevdf_c.proofs.exports.hands.eevdf_hand_close.Code as code
 use Rattle.eevdf_c.specs.contracts.calls.carrying.hand_close as call
 use Rattle.eevdf_c.proofs.calls.carrying.hand_close.Met.{met}
 
-abbrev stayed : Stays export.ended.signature.params export.ended.kept
-stayed = (stay_dropped _ yes, tt)
+abbrev ks : List Passed
+ks = lent Hand-row ∷ []
+
+abbrev says : Contract_of ks nothing_told
+says N h = record {
+  after = λ r. (None, tt);
+  answer = λ r. [];
+  others = λ r ws. [];
+}
 
 pub eevdf_hand_close_spec : {M : Type 1} → statement M
-eevdf_hand_close_spec 𝓤 𝓛 𝓜 𝓡 wired =
-    let c = export.clauses 𝓛 𝓜.mem 𝓡.returns in let W = walk_of 𝓛 export.ended stayed c in let 𝓣 = tables 𝓤 𝓛.H 𝓜 𝓡 𝓡.env in
-    let G = triple_of 𝓛 call.signature (call.spec 𝓛 𝓜.mem 𝓡.returns) in
-    proved 𝓛 export.ended stayed c 𝓜 𝓡 (Goes-dropped 𝓛 0 (plain (λ _. RawPtr)) yes (λ κs x w. refl), tt)
-    export.Key.name code.function (code.unfolded 𝓤 𝓛.H 𝓜 𝓡 wired)
-    (λ κs. (rawptr_vals, tt)) (λ κs. (rawptr_Tells, tt)) (λ κs qs bounds a h are.
-    let y : Ptr → W.Ghost = λ p0. ((κs, qs, bounds, (p0, tt), (rawptr_vals p0, tt)), h) in
-    qed 𝓛 (raw (on_entry 𝓛 export.signature κs qs a (y a.0).0.4) ∷ ‵ (lies_at Hand-row full_share a.0 h) ∷ []) ∵
-    drop ! $ in_a_block ! a.0 (λ p. lies_at Hand-row full_share p h) (id⊢ 𝓤 _) (λ b0 o0 e0. regoal ! (λ p. prop (WpFn 𝓤 𝓛.H 𝓣.C 𝓣.Λ code.function (flat (types_at export.signature.params κs) (rawptr_vals p, tt)) (W.post (y p)))) e0 refl $
-    enter ! _ _ _ _ _ $ alloc_all ! (λ l. pass_all ! refl ((tt, tt), tt) $
+eevdf_hand_close_spec 𝓤 𝓛 𝓜 𝓡 wired = exported 𝓛 ks nothing_told says 𝓜 𝓡 tt
+    export.Key.name code.function (code.unfolded 𝓤 𝓛.H 𝓜 𝓡 wired) call.Key.name
+    (λ bs ns g ls. met 𝓤 𝓛 𝓜 𝓡 (code.calls-eevdf_c::calls::carrying::hand_close 𝓡.env wired) ((lifetimes ks ls, wholes ks, tt, references ks bs ns g ls, stored ks bs ns ls), tt))
+    (λ bs ns fit fm Q. enter ! _ _ _ _ _ $ alloc_all ! (λ l. pass_all ! refl fit $
     sets ! (of_opd ! (get ! refl)) refl (tt, tt) $ sets ! (addr ! (through ! refl (stop !))) refl (tt, tt) $
-    lft_new ! tt (λ α0. let κ0 : List ℕ = α0 ∷ [] in
-    move ! (1 ∷ []) $ use1 𝓛 (later (some (λ (δ0 : ℕ). ‵ ((MutRef (named 0) κ0 Hand-row).own_val (record { ref_ptr = (b0, o0); ghost_name = δ0; now = h }) (vptr b0 o0 ∷ [])) ⊛ ‵ (flent κ0 (Body (mem Hand-row) b0 o0 δ0))))) (lends_ref 𝓛 Hand-row (named 0) κ0 h b0 o0) $ await ! tt $ pick ! (λ δ0.
-    split ! $
-    nothing ! $ move ! (1 ∷ 0 ∷ []) $ join ! $ nothing ! $ move ! (3 ∷ 0 ∷ []) $ join ! $ join ! $ nothing ! $ move ! (1 ∷ 0 ∷ []) $
-    let z : G.Ghost = (((κ0, tt), (full_share, tt), tt, (record { ref_ptr = (b0, o0); ghost_name = δ0; now = h }, tt), (vptr b0 o0 ∷ [], tt)), tt) in
-    use2 𝓛 (raw (G.pre z)) (id⊢ 𝓤 _) $
-    calls_at ! (framed 𝓤 𝓛.H 𝓜 𝓣) G (met 𝓤 𝓛 𝓜 𝓡 (code.calls-eevdf_c::calls::carrying::hand_close 𝓡.env wired)) z (and_then ! (get ! refl) (no_more !)) (λ v.
-    use1 𝓛 (later (some (λ (r : Unit {0}). ((‵ (flft κ0 full_share) ⊛ ‵ ftrue) ⊛ ‵ (unit.own_val r (v ∷ []))) ⊛
-    some (λ (ws : Hand-row.Denot × Unit {0}). ‵ (lasts call.ended z.0.0 z.0.3 ws) ⊛ raw (fact 𝓤 (ws.0 ≡ None)))))) (id⊢ 𝓤 _) $ await ! tt $
-    pick ! (λ r.
-    split ! $ split ! $ split ! $ lft_end ! tt $ move ! (3 ∷ []) $
-    pick ! (λ ws.
-    split ! $ move ! (1 ∷ []) $ heard ! _ (λ after0.
-    fsplit ! $ fsplit ! $ rewrite ! 0 (λ (m : Hand-row.Denot). ‵ (fres δ0 (Hand-row.coded.code m))) after0 refl $
-    move ! (3 ∷ 6 ∷ 0 ∷ []) $ use3 𝓛 (later (‵ ((mem Hand-row).own_at None b0 o0))) (ref_back 𝓛 Hand-row κ0 δ0 None b0 o0) $ await ! tt $
-    move ! (4 ∷ []) $ feq_l ! (λ is_unit. lands_as ! (ap only is_unit) refl (tt, tt) $ sets ! (of_opd ! (unit_lit !)) refl (tt, tt) $
-    returns ! (look_at ! 0 refl) $ free_all ! refl $
-    keep ! (0 ∷ []) $ suffices ! _ (ends_at 𝓛 export.ended stayed c (y (block_ptr b0 o0)) vunit tt (tt, tt) (tt, tt)) $ feq_i ! _ (vunit ∷ []) _ refl $ nothing ! $ nothing ! $ join ! $ nothing ! $ group ! 3 $ done !))))))))))
+    calls_on ! fm nothing_told (passed ks bs ns) Q (and_then ! (get ! refl) (no_more !)) (λ v lands.
+    lands_as ! lands refl (tt, tt) $ sets ! (of_opd ! (unit_lit !)) refl (tt, tt) $ returns ! (look_at ! 0 refl) $ free_all ! refl $ done !)))

@@ -1,55 +1,28 @@
 -- Written by tools/export_proofs/write.py.
-use Rattle.eevdf_c.proofs.Steps.{◌≡◌, ℕ, ℤ, List, [], ◌∷◌, refl, subst, w64, proved, full_share, id⊢, emp, Incl-refl, ftrue, flft, flent, fres, named, vptr, ⊑_static, fact, fact_i, tables, WpFn, use0, ‵, raw, keep, ◌⊛◌, some, later, prop, ◌$◌, ◌∵◌, !, qed, done, move, drop, use1, use2, use3, split, join, fsplit, rewrite, regoal, pick, await, suffices, group, enter, of_opd, addr, stop, no_more, and_then, returns, alloc_all, pass_all, free_all, look_at, get, through, sets, lands_as, Body, lft_new, lft_end, lent_back, i64, u64, yes, Is, shows, flat, lends_ref, ref_back, lends_shr, mem, part_at, Ptr, RawPtr, block_ptr, lies_at, in_a_block, rawptr_vals, rawptr_Tells, MutRef, ShrRef, plain, types_at, sint_Lawful, uint_Lawful, uint_Makes, uint_vals, uint_Tells, nothing, owned, heard, peeks, calls_at, lasts, on_entry, triple_of, framed, Stays, walk_of, stay_dropped, Goes-dropped, ends_at}
+use Rattle.eevdf_c.proofs.Steps.{◌≡◌, List, [], ◌∷◌, refl, ◌$◌, !, done, enter, of_opd, addr, stop, no_more, and_then, returns, alloc_all, pass_all, free_all, look_at, get, through, sets, lands_as, Passed, number, unsigned, lent, shown, a_code, lifetimes, wholes, references, stored, passed, Contract_of, calls_on, exported, Opened-row, EntryOut-row, Opened-laws}
 use Rattle.eevdf_c.specs.Errors.{KeepsOnError}
 use Rattle.eevdf_c.specs.EntryOut as entries
-use Rattle.eevdf_c.specs.contracts.opened.Opened.{the_row as Opened-row}
-use Rattle.eevdf_c.proofs.opened.Opened.TheLaws.{the_row_laws as Opened-laws}
-use Rattle.eevdf_c.specs.contracts.entry_out.EntryOut.{the_row as EntryOut-row}
 use Rattle.eevdf_c.specs.contracts.exports.readers.eevdf_entry_of as export
 use Rattle.eevdf_c.proofs.exports.readers.eevdf_entry_of.Statement.{statement}
 use Rattle.eevdf_c.proofs.exports.readers.eevdf_entry_of.Code as code
 use Rattle.eevdf_c.specs.contracts.calls.reading.entry_of as call
 use Rattle.eevdf_c.proofs.calls.reading.entry_of.Met.{met}
 
-abbrev stayed : Stays export.ended.signature.params export.ended.kept
-stayed = (stay_dropped _ yes, (stay_dropped _ yes, (stay_dropped _ yes, tt)))
+abbrev ks : List Passed
+ks = shown Opened-row ∷ number unsigned ∷ lent EntryOut-row ∷ []
+
+abbrev says : Contract_of ks a_code
+says N g = let task = N.0 in record {
+  after = λ r. (entries.told_entry g.0 g.1 task, tt);
+  answer = λ r. (r ≡ entries.entry g.0 task) ∷ [];
+  others = λ r ws. (KeepsOnError r g.1 ws.0) ∷ [];
+}
 
 pub eevdf_entry_of_spec : {M : Type 1} → statement M
-eevdf_entry_of_spec 𝓤 𝓛 𝓜 𝓡 wired =
-    let c = export.clauses 𝓛 𝓜.mem 𝓡.returns in let W = walk_of 𝓛 export.ended stayed c in let 𝓣 = tables 𝓤 𝓛.H 𝓜 𝓡 𝓡.env in
-    let G = triple_of 𝓛 call.signature (call.spec 𝓛 𝓜.mem 𝓡.returns) in
-    proved 𝓛 export.ended stayed c 𝓜 𝓡 (Goes-dropped 𝓛 0 (plain (λ _. RawPtr)) yes (λ κs x w. refl), (Goes-dropped 𝓛 0 (plain (λ _. u64)) yes (λ κs x w. refl), (Goes-dropped 𝓛 0 (plain (λ _. RawPtr)) yes (λ κs x w. refl), tt)))
-    export.Key.name code.function (code.unfolded 𝓤 𝓛.H 𝓜 𝓡 wired)
-    (λ κs. (rawptr_vals, (uint_vals w64, (rawptr_vals, tt)))) (λ κs. (rawptr_Tells, (uint_Tells w64, (rawptr_Tells, tt)))) (λ κs qs bounds a g are.
-    let task = a.1.0 in
-    let y : Ptr → Ptr → W.Ghost = λ p0 p1. ((κs, qs, bounds, (p0, (task, (p1, tt))), (rawptr_vals p0, (uint_vals w64 task, (rawptr_vals p1, tt)))), g) in
-    qed 𝓛 (raw (on_entry 𝓛 export.signature κs qs a (y a.0 a.1.1.0).0.4) ∷ ‵ (lies_at Opened-row full_share a.0 g.0) ∷ ‵ (lies_at EntryOut-row full_share a.1.1.0 g.1) ∷ []) ∵
-    drop ! $ in_a_block ! a.0 (λ p. lies_at Opened-row full_share p g.0) (id⊢ 𝓤 _) (λ b0 o0 e0. regoal ! (λ p. prop (WpFn 𝓤 𝓛.H 𝓣.C 𝓣.Λ code.function (flat (types_at export.signature.params κs) (rawptr_vals p, (uint_vals w64 task, (rawptr_vals a.1.1.0, tt)))) (W.post (y p a.1.1.0)))) e0 refl $
-    move ! (1 ∷ []) $ in_a_block ! a.1.1.0 (λ p. lies_at EntryOut-row full_share p g.1) (id⊢ 𝓤 _) (λ b1 o1 e1. regoal ! (λ p. prop (WpFn 𝓤 𝓛.H 𝓣.C 𝓣.Λ code.function (flat (types_at export.signature.params κs) (rawptr_vals (block_ptr b0 o0), (uint_vals w64 task, (rawptr_vals p, tt)))) (W.post (y (block_ptr b0 o0) p)))) e1 refl $
-    enter ! _ _ _ _ _ $ alloc_all ! (λ l. pass_all ! refl ((tt, tt), (((uint_Lawful 𝓛 w64).typed task _ are.1.0).0, ((tt, tt), tt))) $
+eevdf_entry_of_spec 𝓤 𝓛 𝓜 𝓡 wired = exported 𝓛 ks a_code says 𝓜 𝓡 (Opened-laws.shares 𝓛, tt)
+    export.Key.name code.function (code.unfolded 𝓤 𝓛.H 𝓜 𝓡 wired) call.Key.name
+    (λ bs ns g ls. met 𝓤 𝓛 𝓜 𝓡 (code.calls-eevdf_c::calls::reading::entry_of 𝓡.env wired) ((lifetimes ks ls, wholes ks, tt, references ks bs ns g ls, stored ks bs ns ls), tt))
+    (λ bs ns fit fm Q. enter ! _ _ _ _ _ $ alloc_all ! (λ l. pass_all ! refl fit $
     sets ! (of_opd ! (get ! refl)) refl (tt, tt) $ sets ! (addr ! (through ! refl (stop !))) refl (tt, tt) $ sets ! (addr ! (through ! refl (stop !))) refl (tt, tt) $
-    lft_new ! tt (λ α0. let κ0 : List ℕ = α0 ∷ [] in
-    move ! (2 ∷ 0 ∷ []) $ use2 𝓛 (later ((‵ ((ShrRef (named 0) κ0 Opened-row).own_val (record { ref_ptr = (b0, o0); now = g.0 }) (vptr b0 o0 ∷ [])) ⊛ ‵ (flent κ0 (part_at Opened-row full_share g.0 b0 o0))) ⊛ ‵ (flft κ0 full_share))) (lends_shr 𝓛 Opened-row (named 0) κ0 full_share g.0 b0 o0 Opened-row.lives (Opened-laws.shares 𝓛 g.0) ((κ0, full_share) ∷ []) (⊑_static κ0) (Incl-refl κ0)) $ await ! tt $ split ! $ split ! $
-    lft_new ! tt (λ α1. let κ1 : List ℕ = α1 ∷ [] in
-    move ! (4 ∷ []) $ use1 𝓛 (later (some (λ (δ1 : ℕ). ‵ ((MutRef (named 0) κ1 EntryOut-row).own_val (record { ref_ptr = (b1, o1); ghost_name = δ1; now = g.1 }) (vptr b1 o1 ∷ [])) ⊛ ‵ (flent κ1 (Body (mem EntryOut-row) b1 o1 δ1))))) (lends_ref 𝓛 EntryOut-row (named 0) κ1 g.1 b1 o1) $ await ! tt $ pick ! (λ δ1.
-    split ! $
-    nothing ! $ move ! (1 ∷ 0 ∷ []) $ join ! $ owned ! u64 (Is u64) (uint_Makes 𝓛 w64) task _ are.1.0 $ join ! $ move ! (3 ∷ 0 ∷ []) $ join ! $ nothing ! $ move ! (3 ∷ 0 ∷ []) $ join ! $ move ! (4 ∷ 0 ∷ []) $ join ! $ join ! $ nothing ! $ move ! (1 ∷ 0 ∷ []) $
-    let z : G.Ghost = (((κ0, (κ1, tt)), (full_share, (full_share, tt)), tt, (record { ref_ptr = (b0, o0); now = g.0 }, (task, (record { ref_ptr = (b1, o1); ghost_name = δ1; now = g.1 }, tt))), (vptr b0 o0 ∷ [], (uint_vals w64 task, (vptr b1 o1 ∷ [], tt)))), tt) in
-    use2 𝓛 (raw (G.pre z)) (id⊢ 𝓤 _) $
-    calls_at ! (framed 𝓤 𝓛.H 𝓜 𝓣) G (met 𝓤 𝓛 𝓜 𝓡 (code.calls-eevdf_c::calls::reading::entry_of 𝓡.env wired)) z (and_then ! (get ! refl) (and_then ! (get ! refl) (and_then ! (get ! refl) (no_more !)))) (λ v.
-    use1 𝓛 (later (some (λ (r : ℤ). ((‵ (flft κ0 full_share) ⊛ (‵ (flft κ1 full_share) ⊛ ‵ ftrue)) ⊛ ‵ (i64.own_val r (v ∷ []))) ⊛
-    some (λ (ws : Unit {0} × (Unit {0} × (EntryOut-row.Denot × Unit {0}))). ‵ (lasts call.ended z.0.0 z.0.3 ws) ⊛ (raw (fact 𝓤 (r ≡ entries.entry g.0 task)) ⊛ (raw (fact 𝓤 (ws.1.1.0 ≡ (entries.told_entry g.0 g.1 task))) ⊛ raw (fact 𝓤 (KeepsOnError r g.1 ws.1.1.0)))))))) (id⊢ 𝓤 _) $ await ! tt $
-    pick ! (λ r.
-    split ! $ split ! $ split ! $ lft_end ! tt $ move ! (1 ∷ []) $ split ! $ lft_end ! tt $ move ! (4 ∷ []) $
-    pick ! (λ ws.
-    split ! $ move ! (1 ∷ []) $ split ! $ heard ! _ (λ answer.
-    split ! $ heard ! _ (λ after1.
-    heard ! _ (λ kept.
-    fsplit ! $ drop ! $ fsplit ! $ drop ! $ fsplit ! $ fsplit ! $ rewrite ! 0 (λ (m : EntryOut-row.Denot). ‵ (fres δ1 (EntryOut-row.coded.code m))) after1 refl $
-    move ! (5 ∷ 8 ∷ []) $ lent_back ! tt $
-    move ! (4 ∷ 7 ∷ 1 ∷ []) $ use3 𝓛 (later (‵ ((mem EntryOut-row).own_at (entries.told_entry g.0 g.1 task) b1 o1))) (ref_back 𝓛 EntryOut-row κ1 δ1 (entries.told_entry g.0 g.1 task) b1 o1) $ await ! tt $
-    move ! (5 ∷ []) $ peeks ! i64 (Is i64) (shows 𝓛 i64) r (v ∷ []) (λ is. lands_as ! refl refl ((sint_Lawful 𝓛 w64).typed r (v ∷ []) is).0 $
-    returns ! (look_at ! 0 refl) $ free_all ! refl $
-    keep ! (0 ∷ 2 ∷ 1 ∷ []) $ use0 𝓛 (raw (fact 𝓤 (KeepsOnError r g.1 (entries.told_entry g.0 g.1 task)))) (fact_i 𝓤 (KeepsOnError r g.1 (entries.told_entry g.0 g.1 task)) (emp 𝓤) (subst (λ (m : EntryOut-row.Denot). KeepsOnError r g.1 m) after1 kept)) $
-    use0 𝓛 (raw (fact 𝓤 (r ≡ entries.entry g.0 task))) (fact_i 𝓤 (r ≡ entries.entry g.0 task) (emp 𝓤) answer) $
-    move ! (2 ∷ 3 ∷ 4 ∷ []) $ suffices ! _ (ends_at 𝓛 export.ended stayed c (y (block_ptr b0 o0) (block_ptr b1 o1)) v r (tt, (tt, (tt, tt))) (tt, (tt, (tt, tt)))) $ nothing ! $ nothing ! $ join ! $ nothing ! $ join ! $ nothing ! $ join ! $ nothing ! $ group ! 3 $ done !))))))))))))))
+    calls_on ! fm a_code (passed ks bs ns) Q (and_then ! (get ! refl) (and_then ! (get ! refl) (and_then ! (get ! refl) (no_more !)))) (λ v lands.
+    lands_as ! refl refl lands $ returns ! (look_at ! 0 refl) $ free_all ! refl $ done !)))

@@ -1,50 +1,28 @@
 -- Written by tools/export_proofs/write.py.
-use Rattle.eevdf_c.proofs.Steps.{◌≡◌, ℕ, ℤ, List, [], ◌∷◌, refl, subst, w64, proved, full_share, id⊢, emp, ftrue, flft, flent, fres, named, vptr, fact, fact_i, tables, WpFn, use0, ‵, raw, keep, ◌⊛◌, some, later, prop, ◌$◌, ◌∵◌, !, qed, done, move, drop, use1, use2, use3, split, join, fsplit, rewrite, regoal, pick, await, suffices, group, enter, of_opd, addr, stop, no_more, and_then, returns, alloc_all, pass_all, free_all, look_at, get, through, sets, lands_as, Body, lft_new, lft_end, i64, u64, yes, Is, shows, flat, lends_ref, ref_back, mem, Ptr, RawPtr, block_ptr, lies_at, in_a_block, rawptr_vals, rawptr_Tells, MutRef, plain, types_at, sint_Lawful, sint_Makes, sint_vals, sint_Tells, uint_Lawful, uint_Makes, uint_vals, uint_Tells, nothing, owned, heard, peeks, calls_at, lasts, on_entry, triple_of, framed, Stays, walk_of, stay_dropped, Goes-dropped, ends_at}
+use Rattle.eevdf_c.proofs.Steps.{◌≡◌, List, [], ◌∷◌, refl, ◌$◌, !, done, enter, of_opd, addr, stop, no_more, and_then, returns, alloc_all, pass_all, free_all, look_at, get, through, sets, lands_as, Passed, number, unsigned, signed, lent, a_code, lifetimes, wholes, references, stored, passed, Contract_of, calls_on, exported, Opened-row}
 use Rattle.eevdf_c.specs.Errors.{KeepsOnError}
 use Rattle.eevdf_c.specs.Renice as renices
-use Rattle.eevdf_c.specs.contracts.opened.Opened.{the_row as Opened-row}
 use Rattle.eevdf_c.specs.contracts.exports.tasks.eevdf_renice as export
 use Rattle.eevdf_c.proofs.exports.tasks.eevdf_renice.Statement.{statement}
 use Rattle.eevdf_c.proofs.exports.tasks.eevdf_renice.Code as code
 use Rattle.eevdf_c.specs.contracts.calls.changing.renice as call
 use Rattle.eevdf_c.proofs.calls.changing.renice.Met.{met}
 
-abbrev stayed : Stays export.ended.signature.params export.ended.kept
-stayed = (stay_dropped _ yes, (stay_dropped _ yes, (stay_dropped _ yes, tt)))
+abbrev ks : List Passed
+ks = lent Opened-row ∷ number unsigned ∷ number signed ∷ []
+
+abbrev says : Contract_of ks a_code
+says N q = let task = N.0 in let nice = N.1.0 in record {
+  after = λ r. ((renices.renice q task nice).1, tt);
+  answer = λ r. (r ≡ (renices.renice q task nice).0) ∷ [];
+  others = λ r ws. (KeepsOnError r q ws.0) ∷ [];
+}
 
 pub eevdf_renice_spec : {M : Type 1} → statement M
-eevdf_renice_spec 𝓤 𝓛 𝓜 𝓡 wired =
-    let c = export.clauses 𝓛 𝓜.mem 𝓡.returns in let W = walk_of 𝓛 export.ended stayed c in let 𝓣 = tables 𝓤 𝓛.H 𝓜 𝓡 𝓡.env in
-    let G = triple_of 𝓛 call.signature (call.spec 𝓛 𝓜.mem 𝓡.returns) in
-    proved 𝓛 export.ended stayed c 𝓜 𝓡 (Goes-dropped 𝓛 0 (plain (λ _. RawPtr)) yes (λ κs x w. refl), (Goes-dropped 𝓛 0 (plain (λ _. u64)) yes (λ κs x w. refl), (Goes-dropped 𝓛 0 (plain (λ _. i64)) yes (λ κs x w. refl), tt)))
-    export.Key.name code.function (code.unfolded 𝓤 𝓛.H 𝓜 𝓡 wired)
-    (λ κs. (rawptr_vals, (uint_vals w64, (sint_vals w64, tt)))) (λ κs. (rawptr_Tells, (uint_Tells w64, (sint_Tells w64, tt)))) (λ κs qs bounds a q are.
-    let task = a.1.0 in
-    let nice = a.1.1.0 in
-    let y : Ptr → W.Ghost = λ p0. ((κs, qs, bounds, (p0, (task, (nice, tt))), (rawptr_vals p0, (uint_vals w64 task, (sint_vals w64 nice, tt)))), q) in
-    qed 𝓛 (raw (on_entry 𝓛 export.signature κs qs a (y a.0).0.4) ∷ ‵ (lies_at Opened-row full_share a.0 q) ∷ []) ∵
-    drop ! $ in_a_block ! a.0 (λ p. lies_at Opened-row full_share p q) (id⊢ 𝓤 _) (λ b0 o0 e0. regoal ! (λ p. prop (WpFn 𝓤 𝓛.H 𝓣.C 𝓣.Λ code.function (flat (types_at export.signature.params κs) (rawptr_vals p, (uint_vals w64 task, (sint_vals w64 nice, tt)))) (W.post (y p)))) e0 refl $
-    enter ! _ _ _ _ _ $ alloc_all ! (λ l. pass_all ! refl ((tt, tt), (((uint_Lawful 𝓛 w64).typed task _ are.1.0).0, (((sint_Lawful 𝓛 w64).typed nice _ are.1.1.0).0, tt))) $
+eevdf_renice_spec 𝓤 𝓛 𝓜 𝓡 wired = exported 𝓛 ks a_code says 𝓜 𝓡 tt
+    export.Key.name code.function (code.unfolded 𝓤 𝓛.H 𝓜 𝓡 wired) call.Key.name
+    (λ bs ns g ls. met 𝓤 𝓛 𝓜 𝓡 (code.calls-eevdf_c::calls::changing::renice 𝓡.env wired) ((lifetimes ks ls, wholes ks, tt, references ks bs ns g ls, stored ks bs ns ls), tt))
+    (λ bs ns fit fm Q. enter ! _ _ _ _ _ $ alloc_all ! (λ l. pass_all ! refl fit $
     sets ! (of_opd ! (get ! refl)) refl (tt, tt) $ sets ! (addr ! (through ! refl (stop !))) refl (tt, tt) $
-    lft_new ! tt (λ α0. let κ0 : List ℕ = α0 ∷ [] in
-    move ! (1 ∷ []) $ use1 𝓛 (later (some (λ (δ0 : ℕ). ‵ ((MutRef (named 0) κ0 Opened-row).own_val (record { ref_ptr = (b0, o0); ghost_name = δ0; now = q }) (vptr b0 o0 ∷ [])) ⊛ ‵ (flent κ0 (Body (mem Opened-row) b0 o0 δ0))))) (lends_ref 𝓛 Opened-row (named 0) κ0 q b0 o0) $ await ! tt $ pick ! (λ δ0.
-    split ! $
-    nothing ! $ owned ! i64 (Is i64) (sint_Makes 𝓛 w64) nice _ are.1.1.0 $ join ! $ owned ! u64 (Is u64) (uint_Makes 𝓛 w64) task _ are.1.0 $ join ! $ move ! (1 ∷ 0 ∷ []) $ join ! $ nothing ! $ move ! (3 ∷ 0 ∷ []) $ join ! $ join ! $ nothing ! $ move ! (1 ∷ 0 ∷ []) $
-    let z : G.Ghost = (((κ0, tt), (full_share, tt), tt, (record { ref_ptr = (b0, o0); ghost_name = δ0; now = q }, (task, (nice, tt))), (vptr b0 o0 ∷ [], (uint_vals w64 task, (sint_vals w64 nice, tt)))), tt) in
-    use2 𝓛 (raw (G.pre z)) (id⊢ 𝓤 _) $
-    calls_at ! (framed 𝓤 𝓛.H 𝓜 𝓣) G (met 𝓤 𝓛 𝓜 𝓡 (code.calls-eevdf_c::calls::changing::renice 𝓡.env wired)) z (and_then ! (get ! refl) (and_then ! (get ! refl) (and_then ! (get ! refl) (no_more !)))) (λ v.
-    use1 𝓛 (later (some (λ (r : ℤ). ((‵ (flft κ0 full_share) ⊛ ‵ ftrue) ⊛ ‵ (i64.own_val r (v ∷ []))) ⊛
-    some (λ (ws : Opened-row.Denot × (Unit {0} × (Unit {0} × Unit {0}))). ‵ (lasts call.ended z.0.0 z.0.3 ws) ⊛ (raw (fact 𝓤 (r ≡ (renices.renice q task nice).0)) ⊛ (raw (fact 𝓤 (ws.0 ≡ (renices.renice q task nice).1)) ⊛ raw (fact 𝓤 (KeepsOnError r q ws.0)))))))) (id⊢ 𝓤 _) $ await ! tt $
-    pick ! (λ r.
-    split ! $ split ! $ split ! $ lft_end ! tt $ move ! (3 ∷ []) $
-    pick ! (λ ws.
-    split ! $ move ! (1 ∷ []) $ split ! $ heard ! _ (λ answer.
-    split ! $ heard ! _ (λ after0.
-    heard ! _ (λ kept.
-    fsplit ! $ fsplit ! $ rewrite ! 0 (λ (m : Opened-row.Denot). ‵ (fres δ0 (Opened-row.coded.code m))) after0 refl $ move ! (2 ∷ []) $ fsplit ! $ drop ! $ fsplit ! $ drop ! $
-    move ! (3 ∷ 6 ∷ 1 ∷ []) $ use3 𝓛 (later (‵ ((mem Opened-row).own_at (renices.renice q task nice).1 b0 o0))) (ref_back 𝓛 Opened-row κ0 δ0 (renices.renice q task nice).1 b0 o0) $ await ! tt $
-    move ! (4 ∷ []) $ peeks ! i64 (Is i64) (shows 𝓛 i64) r (v ∷ []) (λ is. lands_as ! refl refl ((sint_Lawful 𝓛 w64).typed r (v ∷ []) is).0 $
-    returns ! (look_at ! 0 refl) $ free_all ! refl $
-    keep ! (0 ∷ 1 ∷ []) $ use0 𝓛 (raw (fact 𝓤 (KeepsOnError r q (renices.renice q task nice).1))) (fact_i 𝓤 (KeepsOnError r q (renices.renice q task nice).1) (emp 𝓤) (subst (λ (m : Opened-row.Denot). KeepsOnError r q m) after0 kept)) $
-    use0 𝓛 (raw (fact 𝓤 (r ≡ (renices.renice q task nice).0))) (fact_i 𝓤 (r ≡ (renices.renice q task nice).0) (emp 𝓤) answer) $
-    move ! (2 ∷ 3 ∷ []) $ suffices ! _ (ends_at 𝓛 export.ended stayed c (y (block_ptr b0 o0)) v r (tt, (tt, (tt, tt))) (tt, (tt, (tt, tt)))) $ nothing ! $ nothing ! $ join ! $ nothing ! $ join ! $ nothing ! $ join ! $ nothing ! $ group ! 3 $ done !))))))))))))
+    calls_on ! fm a_code (passed ks bs ns) Q (and_then ! (get ! refl) (and_then ! (get ! refl) (and_then ! (get ! refl) (no_more !)))) (λ v lands.
+    lands_as ! refl refl lands $ returns ! (look_at ! 0 refl) $ free_all ! refl $ done !)))

@@ -1,52 +1,31 @@
 -- Written by tools/export_proofs/write.py.
-use Rattle.eevdf_c.proofs.Steps.{◌≡◌, ℕ, ℤ, List, [], ◌∷◌, refl, w64, proved, full_share, id⊢, emp, Incl-refl, ftrue, flft, flent, named, vptr, ⊑_static, fact, fact_i, tables, WpFn, use0, ‵, raw, keep, ◌⊛◌, some, later, prop, ◌$◌, ◌∵◌, !, qed, done, move, drop, use1, use2, split, join, fsplit, regoal, pick, await, suffices, group, enter, of_opd, addr, stop, no_more, and_then, returns, alloc_all, pass_all, free_all, look_at, get, through, sets, lands_as, lft_new, lft_end, lent_back, i64, yes, Is, shows, flat, lends_shr, part_at, Ptr, RawPtr, block_ptr, lies_at, in_a_block, rawptr_vals, rawptr_Tells, ShrRef, plain, types_at, sint_Lawful, nothing, heard, peeks, calls_at, lasts, on_entry, triple_of, framed, Stays, walk_of, stay_dropped, Goes-dropped, ends_at}
+use Rattle.eevdf_c.proofs.Steps.{◌≡◌, ℕ, List, [], ◌∷◌, refl, ◌$◌, !, done, enter, of_opd, addr, stop, no_more, and_then, returns, alloc_all, pass_all, free_all, look_at, get, through, sets, lands_as, Passed, shown, a_code, lifetimes, wholes, references, stored, passed, Contract_of, calls_on, exported, Opened-row, Opened-laws}
 use Rattle.std.specs.Prelude.{◌↔◌, pos}
 use Rattle.eevdf_queue.specs.{Pick.IsPick}
 use Rattle.eevdf_c.specs.Codes.{absent}
 use Rattle.std.specs.FinMap as map
 use Rattle.eevdf_c.specs.Turns as turns
-use Rattle.eevdf_c.specs.contracts.opened.Opened.{the_row as Opened-row}
-use Rattle.eevdf_c.proofs.opened.Opened.TheLaws.{the_row_laws as Opened-laws}
 use Rattle.eevdf_c.specs.contracts.exports.turns.eevdf_peek as export
 use Rattle.eevdf_c.proofs.exports.turns.eevdf_peek.Statement.{statement}
 use Rattle.eevdf_c.proofs.exports.turns.eevdf_peek.Code as code
 use Rattle.eevdf_c.specs.contracts.calls.turns.peek as call
 use Rattle.eevdf_c.proofs.calls.turns.peek.Met.{met}
 
-abbrev stayed : Stays export.ended.signature.params export.ended.kept
-stayed = (stay_dropped _ yes, tt)
+abbrev ks : List Passed
+ks = shown Opened-row ∷ []
+
+abbrev says : Contract_of ks a_code
+says N q = record {
+  after = λ r. tt;
+  answer = λ r. (r ≡ turns.peek q) ∷ [];
+  others = λ r ws. ((t : ℕ) → r ≡ pos t → IsPick q.runnable t) ∷ ((r ≡ absent) ↔ (q.runnable ≡ map.empty)) ∷ [];
+}
 
 pub eevdf_peek_spec : {M : Type 1} → statement M
-eevdf_peek_spec 𝓤 𝓛 𝓜 𝓡 wired =
-    let c = export.clauses 𝓛 𝓜.mem 𝓡.returns in let W = walk_of 𝓛 export.ended stayed c in let 𝓣 = tables 𝓤 𝓛.H 𝓜 𝓡 𝓡.env in
-    let G = triple_of 𝓛 call.signature (call.spec 𝓛 𝓜.mem 𝓡.returns) in
-    proved 𝓛 export.ended stayed c 𝓜 𝓡 (Goes-dropped 𝓛 0 (plain (λ _. RawPtr)) yes (λ κs x w. refl), tt)
-    export.Key.name code.function (code.unfolded 𝓤 𝓛.H 𝓜 𝓡 wired)
-    (λ κs. (rawptr_vals, tt)) (λ κs. (rawptr_Tells, tt)) (λ κs qs bounds a q are.
-    let y : Ptr → W.Ghost = λ p0. ((κs, qs, bounds, (p0, tt), (rawptr_vals p0, tt)), q) in
-    qed 𝓛 (raw (on_entry 𝓛 export.signature κs qs a (y a.0).0.4) ∷ ‵ (lies_at Opened-row full_share a.0 q) ∷ []) ∵
-    drop ! $ in_a_block ! a.0 (λ p. lies_at Opened-row full_share p q) (id⊢ 𝓤 _) (λ b0 o0 e0. regoal ! (λ p. prop (WpFn 𝓤 𝓛.H 𝓣.C 𝓣.Λ code.function (flat (types_at export.signature.params κs) (rawptr_vals p, tt)) (W.post (y p)))) e0 refl $
-    enter ! _ _ _ _ _ $ alloc_all ! (λ l. pass_all ! refl ((tt, tt), tt) $
+eevdf_peek_spec 𝓤 𝓛 𝓜 𝓡 wired = exported 𝓛 ks a_code says 𝓜 𝓡 (Opened-laws.shares 𝓛, tt)
+    export.Key.name code.function (code.unfolded 𝓤 𝓛.H 𝓜 𝓡 wired) call.Key.name
+    (λ bs ns g ls. met 𝓤 𝓛 𝓜 𝓡 (code.calls-eevdf_c::calls::turns::peek 𝓡.env wired) ((lifetimes ks ls, wholes ks, tt, references ks bs ns g ls, stored ks bs ns ls), tt))
+    (λ bs ns fit fm Q. enter ! _ _ _ _ _ $ alloc_all ! (λ l. pass_all ! refl fit $
     sets ! (of_opd ! (get ! refl)) refl (tt, tt) $ sets ! (addr ! (through ! refl (stop !))) refl (tt, tt) $
-    lft_new ! tt (λ α0. let κ0 : List ℕ = α0 ∷ [] in
-    move ! (1 ∷ 0 ∷ []) $ use2 𝓛 (later ((‵ ((ShrRef (named 0) κ0 Opened-row).own_val (record { ref_ptr = (b0, o0); now = q }) (vptr b0 o0 ∷ [])) ⊛ ‵ (flent κ0 (part_at Opened-row full_share q b0 o0))) ⊛ ‵ (flft κ0 full_share))) (lends_shr 𝓛 Opened-row (named 0) κ0 full_share q b0 o0 Opened-row.lives (Opened-laws.shares 𝓛 q) ((κ0, full_share) ∷ []) (⊑_static κ0) (Incl-refl κ0)) $ await ! tt $ split ! $ split ! $
-    nothing ! $ move ! (1 ∷ 0 ∷ []) $ join ! $ nothing ! $ move ! (3 ∷ 0 ∷ []) $ join ! $ join ! $ nothing ! $ move ! (1 ∷ 0 ∷ []) $
-    let z : G.Ghost = (((κ0, tt), (full_share, tt), tt, (record { ref_ptr = (b0, o0); now = q }, tt), (vptr b0 o0 ∷ [], tt)), tt) in
-    use2 𝓛 (raw (G.pre z)) (id⊢ 𝓤 _) $
-    calls_at ! (framed 𝓤 𝓛.H 𝓜 𝓣) G (met 𝓤 𝓛 𝓜 𝓡 (code.calls-eevdf_c::calls::turns::peek 𝓡.env wired)) z (and_then ! (get ! refl) (no_more !)) (λ v.
-    use1 𝓛 (later (some (λ (r : ℤ). ((‵ (flft κ0 full_share) ⊛ ‵ ftrue) ⊛ ‵ (i64.own_val r (v ∷ []))) ⊛
-    some (λ (ws : Unit {0} × Unit {0}). ‵ (lasts call.ended z.0.0 z.0.3 ws) ⊛ (raw (fact 𝓤 (r ≡ turns.peek q)) ⊛ (raw (fact 𝓤 ((t : ℕ) → r ≡ pos t → IsPick q.runnable t)) ⊛ raw (fact 𝓤 ((r ≡ absent) ↔ (q.runnable ≡ map.empty))))))))) (id⊢ 𝓤 _) $ await ! tt $
-    pick ! (λ r.
-    split ! $ split ! $ split ! $ lft_end ! tt $ move ! (3 ∷ []) $
-    pick ! (λ ws.
-    split ! $ move ! (1 ∷ []) $ split ! $ heard ! _ (λ answer.
-    split ! $ heard ! _ (λ picked.
-    heard ! _ (λ nobody.
-    fsplit ! $ drop ! $
-    move ! (1 ∷ 4 ∷ []) $ lent_back ! tt $
-    move ! (3 ∷ []) $ peeks ! i64 (Is i64) (shows 𝓛 i64) r (v ∷ []) (λ is. lands_as ! refl refl ((sint_Lawful 𝓛 w64).typed r (v ∷ []) is).0 $
-    returns ! (look_at ! 0 refl) $ free_all ! refl $
-    keep ! (0 ∷ 1 ∷ []) $ use0 𝓛 (raw (fact 𝓤 ((r ≡ absent) ↔ (q.runnable ≡ map.empty)))) (fact_i 𝓤 ((r ≡ absent) ↔ (q.runnable ≡ map.empty)) (emp 𝓤) nobody) $
-    use0 𝓛 (raw (fact 𝓤 ((t : ℕ) → r ≡ pos t → IsPick q.runnable t))) (fact_i 𝓤 ((t : ℕ) → r ≡ pos t → IsPick q.runnable t) (emp 𝓤) picked) $
-    use0 𝓛 (raw (fact 𝓤 (r ≡ turns.peek q))) (fact_i 𝓤 (r ≡ turns.peek q) (emp 𝓤) answer) $
-    move ! (3 ∷ 4 ∷ []) $ suffices ! _ (ends_at 𝓛 export.ended stayed c (y (block_ptr b0 o0)) v r (tt, tt) (tt, tt)) $ nothing ! $ nothing ! $ join ! $ nothing ! $ group ! 3 $ done !)))))))))))
+    calls_on ! fm a_code (passed ks bs ns) Q (and_then ! (get ! refl) (no_more !)) (λ v lands.
+    lands_as ! refl refl lands $ returns ! (look_at ! 0 refl) $ free_all ! refl $ done !)))
