@@ -21,7 +21,8 @@ use Rattle.eevdf_fair_queue.specs.Owed.{Share, no_share, with_share, IsTold}
 use Rattle.eevdf_fair_queue.specs.Beside.{SharesView, charged_at, ticked, shares_lowered, IsOwedOf, LacksNoMoreOf, KeepsSharesOf, StaysAsItWas, GivesSharesOf, SharesBesideAreTold}
 use Rattle.eevdf_fair_queue.proofs.MeanTimes.{weighs}
 use Rattle.eevdf_fair_queue.proofs.Marks.{then, marked, lacking, Suffices}
-use Rattle.eevdf_fair_queue.proofs.Owed.{told_of, reloads, lowers, long, ran_other, ran_itself, nothing_lower, one}
+use Rattle.eevdf_fair_queue.proofs.Owed.{told_of, reloads, lowers, long, ran_other, ran_itself, nothing_lower}
+use Rattle.eevdf_fair_queue.proofs.Orders.{one}
 
 -- ---- a mark, and what is read by it
 pub mark_beside_owed : (s : SharesView) (q : State) (task : ℕ) (e : Entry) → 1 ≤ s.load → get q.runnable task ≡ Some e

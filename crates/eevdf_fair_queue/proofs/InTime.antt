@@ -5,6 +5,7 @@ use Rattle.std.proofs.{lemmas.Int.ints, Math.IntN.pos-*ℤ-pos}
 use Rattle.eevdf_queue.proofs.Scaled.{sum_scaled, scaled_le}
 use Rattle.eevdf_queue.specs.{State.State, Sums.total_weight, Sums.total_moment}
 use Rattle.eevdf_fair_queue.specs.{Lateness.NoneIsLaterThan, InTime.in_time, InTime.NoneIsLaterInTime}
+use Rattle.eevdf_fair_queue.proofs.Orders.{then}
 
 rounded_up : (n : ℕ) → n ≤ 1024 * ((n + 1023) / 1024)
 rounded_up n = omega arith
@@ -20,9 +21,6 @@ and_nothing x = omega (arith, ints)
 
 within_time : (m d x : ℤ) (n ns : ℕ) → m ≤ℤ x → x ≡ d +ℤ pos n → n ≤ 1024 * ns → m ≤ℤ (d +ℤ pos (1024 * ns))
 within_time m d x n ns h is k = omega (arith, ints, h, is, k)
-
-then : (a b c : ℤ) → a ≤ℤ b → b ≤ℤ c → a ≤ℤ c
-then a b c h k = omega (arith, ints, h, k)
 
 pub none_later_in_time : (q : State) (by : ℤ) → NoneIsLaterThan q by → NoneIsLaterInTime q (in_time by (total_weight q.runnable))
 none_later_in_time q (pos by) late task e here =

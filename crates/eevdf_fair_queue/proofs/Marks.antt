@@ -9,6 +9,7 @@ use Rattle.eevdf_fair_queue.specs.{declared.share_clock.ShareMark.ShareMark, Fai
 use Rattle.eevdf_fair_queue.specs.ShareClock.{mark_at, mark_of, is_mark, lack_of, lack_at, lack_since, parts_up, parts_down}
 use Rattle.eevdf_fair_queue.specs.Owed.{load_of, Share, no_share, past_mark, IsTold, IsOwed, LacksNoMore}
 use Rattle.eevdf_fair_queue.proofs.MeanTimes.{weighs}
+use Rattle.eevdf_fair_queue.proofs.Orders.{one}
 use Rattle.eevdf_fair_queue.proofs.ExactShares.{by_parts, in_time, from_mark, nothing, rounded_down, rounded_up}
 
 pub then : {A : Type 0} (o : Option A) (P Q : A → Type 0) → ((x : A) → P x → Q x) → IfSome o P → IfSome o Q
@@ -66,9 +67,6 @@ lacking (Some z) since W v w m some =
     by : (b : Bool) → IfSome (cond b (Some (lack_of k w)) None) (Suffices (Some z) since W v w m)
     by true = suffices
     by false = tt
-
-one : (e f : Entry) (o : Option Entry) → o ≡ Some e → o ≡ Some f → e ≡ f
-one e f o h k = cc
 
 pub bound_owed : (f : FairView) (task : ℕ) (e : Entry) (m : ShareMark) → get f.queue.state.runnable task ≡ Some e
     → IfSome (lack_since f.clock (load_of f) e.v (weight_of e.nice) m) (LacksNoMore f task m)

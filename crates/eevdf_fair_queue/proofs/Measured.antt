@@ -9,15 +9,12 @@ use Rattle.eevdf_queue.proofs.Bounds.{within}
 use Rattle.eevdf_fairness.proofs.EntrySums.{Each, each}
 use Rattle.eevdf_fair_queue.specs.{declared.bounds.Bounds.Bounds, declared.bounds.Mark.Mark, Bounds.held, Bounds.late_by}
 use Rattle.eevdf_fair_queue.specs.{Fair.IsFair, Fair.IsTurn, Lateness.lateness_bound, Lateness.bound_by, Measured.beside, Measured.extremes, Measured.past_by, Measured.furthest_of, Measured.measured}
-use Rattle.eevdf_fair_queue.proofs.{Nearness.each_near, Nearness.small, Nearness.held_past, Late.within_bound, Late.before_by, Orders.lesser_other, Orders.nothing_less, Orders.one}
+use Rattle.eevdf_fair_queue.proofs.{Nearness.each_near, Nearness.small, Nearness.held_past, Late.within_bound, Late.before_by, Orders.lesser_other, Orders.greatest, Orders.greatest_other, Orders.nothing_less, Orders.one}
 
 -- ---- the extremes are beyond each task
 abbrev IsBeyond : Option Mark → Entry → Type 0
 IsBeyond None e = ⊥
 IsBeyond (Some m) e = (e.v ≤ℤ m.v) × (m.d ≤ℤ e.d)
-
-later : (a b : ℤ) → b ≤ℤ int_max a b
-later a b = omega (arith, ints, clamps)
 
 stays_later : (v a b : ℤ) → v ≤ℤ a → v ≤ℤ int_max a b
 stays_later v a b h = omega (arith, ints, clamps, h)
@@ -27,7 +24,7 @@ stays_earlier d a b h = omega (arith, ints, clamps, h)
 
 beyond_one : (o : Option Mark) (x : ℕ × Entry) → IsBeyond (beside o x) x.1
 beyond_one None x = (nothing_less x.1.v, nothing_less x.1.d)
-beyond_one (Some m) x = (later m.v x.1.v, lesser_other m.d x.1.d)
+beyond_one (Some m) x = (greatest_other m.v x.1.v, lesser_other m.d x.1.d)
 
 stays_beyond : (o : Option Mark) (x : ℕ × Entry) (e : Entry) → IsBeyond o e → IsBeyond (beside o x) e
 stays_beyond None x e h = absurd h
@@ -88,10 +85,7 @@ furthest_beyond (Some m) e h = h.0
 
 some_past : (o : Option Mark) → pos 0 ≤ℤ past_by o
 some_past None = nothing_less (pos 0)
-some_past (Some m) = no_less (held (m.v -ℤ m.d))
-  where
-    no_less : (z : ℤ) → pos 0 ≤ℤ int_max (pos 0) z
-    no_less z = omega (arith, ints, clamps)
+some_past (Some m) = greatest (pos 0) (held (m.v -ℤ m.d))
 
 pub measured_is_fair : (q : State) (b : Bounds) → IsKept q → ((turn : ℤ) → b.turn ≡ Some turn → IsTurn q turn) → IsFair q (measured b q)
 measured_is_fair q b kept turn = record {

@@ -8,6 +8,7 @@ use Rattle.eevdf_queue.proofs.Bounds.{within, range_v, range_d}
 use Rattle.eevdf_fair_queue.specs.{declared.bounds.Bounds.Bounds, declared.bounds.Mark.Mark}
 use Rattle.eevdf_fair_queue.specs.Bounds.{held, reached, advanced_where, adopted}
 use Rattle.eevdf_fair_queue.specs.Fair.{IsNear, IsFair}
+use Rattle.eevdf_fair_queue.proofs.Orders.{nothing_less, greatest, greatest_other, no_turn}
 
 -- ---- sums
 pub held_above : (x z : ℤ) → x ≤ℤ pos (2 ^ 60) → x ≤ℤ z → x ≤ℤ held z
@@ -77,15 +78,6 @@ pub each_near : (q : State) (b : Bounds) → IsFair q b → (t u : ℕ) (e f : E
 each_near q b fair t u e f at here = near_before b e.v b.furthest f.d (fair.behind t e at) (fair.near u f here)
 
 -- ---- what becomes of the bounds where a task comes to a virtual runtime
-greatest : (a b : ℤ) → a ≤ℤ int_max a b
-greatest a b = omega (arith, ints, clamps)
-
-greatest_other : (a b : ℤ) → b ≤ℤ int_max a b
-greatest_other a b = omega (arith, ints, clamps)
-
-itself : (a : ℤ) → a ≤ℤ a
-itself a = omega (arith, ints)
-
 -- the furthest is where it was, or the front has come to it
 pub record IsReached (b c : Bounds) (v : ℤ) : Type 0 where
   pub front : b.front ≤ℤ c.front
@@ -105,12 +97,12 @@ reaches b v =
       furthest = omega (arith, ints, is);
       longest = refl;
       turn = refl;
-      behind = itself v;
+      behind = nothing_less v;
       now = inr (greatest_other b.front v);
     }
     by false is = record {
-      front = itself b.front;
-      furthest = itself b.furthest;
+      front = nothing_less b.front;
+      furthest = nothing_less b.furthest;
       longest = refl;
       turn = refl;
       behind = omega (arith, ints, is);
@@ -133,9 +125,6 @@ further a b c h = omega (arith, ints, clamps, h)
 not_less : (a b : ℤ) → int_lt a b ≡ false → b ≤ℤ a
 not_less a b is = omega (arith, ints, is)
 
-no_turn : {A : Type 0} (turn : ℤ) → None ≡ Some turn → A
-no_turn turn is = absurd (cc)
-
 pub becomes : (b c : Bounds) (m : Mark) (e : Entry) (later earlier : Bool) → IsReached b c e.v → int_lt m.v e.v ≡ later → int_lt e.d m.d ≡ earlier
     → Becomes b (adopted (advanced_where earlier c) later) m e
 becomes b c m e false false re later earlier = record {
@@ -154,7 +143,7 @@ becomes b c m e true false re later earlier = record {
   behind = re.behind;
   now = re.now;
   deadline = inl (not_less e.d m.d earlier);
-  turn = λ turn is. no_turn turn is;
+  turn = λ turn is. no_turn turn None refl is;
 }
 becomes b c m e false true re later earlier = record {
   front = further b.front c.front c.furthest re.front;
@@ -163,7 +152,7 @@ becomes b c m e false true re later earlier = record {
   behind = re.behind;
   now = inr (greatest_other c.front c.furthest);
   deadline = inr (greatest_other c.front c.furthest);
-  turn = λ turn is. no_turn turn is;
+  turn = λ turn is. no_turn turn None refl is;
 }
 becomes b c m e true true re later earlier = record {
   front = further b.front c.front c.furthest re.front;
@@ -172,5 +161,5 @@ becomes b c m e true true re later earlier = record {
   behind = re.behind;
   now = inr (greatest_other c.front c.furthest);
   deadline = inr (greatest_other c.front c.furthest);
-  turn = λ turn is. no_turn turn is;
+  turn = λ turn is. no_turn turn None refl is;
 }

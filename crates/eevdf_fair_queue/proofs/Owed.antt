@@ -21,6 +21,7 @@ use Rattle.eevdf_fair_queue.specs.{declared.share_clock.ShareMark.ShareMark, Fai
 use Rattle.eevdf_fair_queue.specs.ShareClock.{Clock, is_clock, checked_clock, later, settled, reloaded, unless_long, charged, lowered, parts_up}
 use Rattle.eevdf_fair_queue.specs.Owed.{load_of, charged_from, reloaded_from, Share, with_share, past_mark, IsTold, IsOwed, KeepsShares, KeepsSharesOfOthers, GivesShares, SharesAreTold}
 use Rattle.eevdf_fair_queue.proofs.MeanTimes.{weighs}
+use Rattle.eevdf_fair_queue.proofs.Orders.{one}
 use Rattle.eevdf_fair_queue.proofs.ExactShares.{charged_other, charged_itself, by_parts, at_load, rounded_up, gone_on, run_on, both_lower, settled_on}
 
 -- ---- what a clock tells
@@ -112,9 +113,6 @@ long c W v w m s served some told =
 -- ---- calls that take no time
 some_load : (f : FairView) (task : ℕ) (m : ShareMark) (s : Share) (served : ℕ) → IsOwed f task m s served → 1 ≤ load_of f
 some_load f task m s served owed = weighs f.queue.state.runnable task owed.entry owed.here
-
-pub one : (e f : Entry) (o : Option Entry) → o ≡ Some e → o ≡ Some f → e ≡ f
-one e f o h k = cc
 
 others_keep : (f g : FairView) → g.clock ≡ reloaded_from f g → KeepsSharesOfOthers f g
 others_keep f g clock task m s served was owed =

@@ -22,15 +22,10 @@ use Rattle.eevdf_fair_queue.specs.{declared.bounds.Bounds.Bounds, Bounds.held, B
 use Rattle.eevdf_fair_queue.specs.Fair.{IsNear, AreBehind, AreNear, IsTurn, IsFair, charged_by}
 use Rattle.eevdf_fair_queue.proofs.Nearness.{same_or_other, small, IsSmall, held_above, held_past, held_some, stays_near, near_later, IsReached}
 use Rattle.eevdf_fair_queue.proofs.Nearness.{reaches as reached_to}
-
-one : (e f : Entry) (o : Option Entry) → o ≡ Some e → o ≡ Some f → e ≡ f
-one e f o h k = cc
+use Rattle.eevdf_fair_queue.proofs.Orders.{nothing_less, then, greatest, greatest_other, past_none, one, no_turn}
 
 no_longer : (v d : ℤ) → v ≤ℤ d → v ≤ℤ (d +ℤ pos 0)
 no_longer v d h = omega (arith, ints, h)
-
-nothing_less : (z : ℤ) → z ≤ℤ z
-nothing_less z = omega (arith, ints)
 
 -- ---- a pick
 module _ (first : PickIsFirst) (nobody : PickOfNobody) (q : State) (b : Bounds) (fair : IsFair q b) where
@@ -68,12 +63,6 @@ record Reaches (b c : Bounds) (v charge : ℤ) : Type 0 where
   now : (c.furthest ≡ b.furthest) ⊎ ((c.furthest ≤ℤ c.front) ⊎ ((turn : ℤ) × (b.turn ≡ Some turn) × (c.furthest ≡ v) × (held (turn +ℤ charge) ≤ℤ c.longest)))
   turn : (n : ℤ) → c.turn ≡ Some n → (turn : ℤ) × (b.turn ≡ Some turn) × (n ≡ held (turn +ℤ charge))
 
-greatest : (a b : ℤ) → a ≤ℤ int_max a b
-greatest a b = omega (arith, ints, clamps)
-
-greatest_other : (a b : ℤ) → b ≤ℤ int_max a b
-greatest_other a b = omega (arith, ints, clamps)
-
 either : (a b : ℤ) → (int_max a b ≡ a) ⊎ (int_max a b ≡ b)
 either a b =
     by (int_le b a) refl
@@ -81,12 +70,6 @@ either a b =
     by : (c : Bool) → int_le b a ≡ c → (int_max a b ≡ a) ⊎ (int_max a b ≡ b)
     by true is = inl (omega (arith, ints, clamps, is))
     by false is = inr (omega (arith, ints, clamps, is))
-
-no_turn : {A : Type 0} (n : ℤ) (o : Option ℤ) → o ≡ None → o ≡ Some n → A
-no_turn n o none is = absurd (cc)
-
-then : (a b c : ℤ) → a ≤ℤ b → b ≤ℤ c → a ≤ℤ c
-then a b c h k = omega (arith, ints, h, k)
 
 the_same : (a b : ℤ) → Some a ≡ Some b → b ≡ a
 the_same a b h = cc
@@ -160,9 +143,6 @@ module _ (q : State) (b c : Bounds) (p : ℕ) (e g : Entry) (charge : ℤ) (fair
 
   out_to : (v d a l : ℤ) → v ≤ℤ (d +ℤ a) → a ≤ℤ l → v ≤ℤ (d +ℤ l)
   out_to v d a l h k = omega (arith, ints, h, k)
-
-  past_none : (v d by : ℤ) → v ≤ℤ d → pos 0 ≤ℤ by → v ≤ℤ (d +ℤ by)
-  past_none v d by h k = omega (arith, ints, h, k)
 
   some_turn : (turn : ℤ) → pos 0 ≤ℤ turn → pos 0 ≤ℤ (turn +ℤ charge)
   some_turn turn h = omega (arith, ints, h, some)

@@ -10,7 +10,7 @@ use Rattle.eevdf_fair_queue.specs.{declared.bounds.Bounds.Bounds, declared.bound
 use Rattle.eevdf_fair_queue.specs.Bounds.{fresh, reached, settled, settled_at}
 use Rattle.eevdf_fair_queue.specs.Fair.{IsNear, AreBehind, AreNear, IsTurn, IsFair, mark_of, mark_by, mark_of_pick, mark_at}
 use Rattle.eevdf_fair_queue.proofs.Nearness.{same_or_other, stays_near, near_later, IsReached, reaches, Becomes, becomes}
-use Rattle.eevdf_fair_queue.proofs.Orders.{nothing_less}
+use Rattle.eevdf_fair_queue.proofs.Orders.{nothing_less, then as goes, past_none, one, no_turn}
 
 -- one task may be another than before, all others are as they were, and nobody runs who didn't
 pub record IsOfOne (task : ℕ) (q r : State) : Type 0 where
@@ -47,9 +47,6 @@ marked_by_pick q b task p f kept fair absent here = record {
   own = λ turn is runs t e at. not_running q.runnable q.running task kept.sound.runs absent runs;
 }
 
-one : (e f : Entry) (o : Option Entry) → o ≡ Some e → o ≡ Some f → e ≡ f
-one e f o h k = cc
-
 -- ---- a task that stands anew
 module _ (task : ℕ) (q r : State) (b c : Bounds) (m : Mark) (e : Entry) (kept : IsKept q) (of_one : IsOfOne task q r) (fair : IsFair q b)
     (now : get r.runnable task ≡ Some e) (mark : IsMark q b task m) (bs : Becomes b c m e) where
@@ -62,9 +59,6 @@ module _ (task : ℕ) (q r : State) (b c : Bounds) (m : Mark) (e : Entry) (kept 
   itself : (t : ℕ) (x : Entry) → t ≡ task → get r.runnable t ≡ Some x → x ≡ e
   itself t x same here = one x e (get r.runnable task) (ap (get r.runnable) (sym same) ∙ here) now
 
-  same_longest : (x : ℤ) → x ≤ℤ x
-  same_longest x = omega (arith, ints)
-
   wide : (d : ℤ) → IsNear b b.furthest d → IsNear c c.furthest d
   wide d h =
       by bs.now
@@ -72,17 +66,11 @@ module _ (task : ℕ) (q r : State) (b c : Bounds) (m : Mark) (e : Entry) (kept 
       by : (c.furthest ≡ b.furthest) ⊎ (c.furthest ≤ℤ c.front) → IsNear c c.furthest d
       by (inl same) =
           subst (λ (v : ℤ). IsNear c v d) (sym same)
-          (stays_near b c b.furthest d bs.front (subst (λ (x : ℤ). b.longest ≤ℤ x) (sym bs.longest) (same_longest b.longest)) h)
+          (stays_near b c b.furthest d bs.front (subst (λ (x : ℤ). b.longest ≤ℤ x) (sym bs.longest) (nothing_less b.longest)) h)
       by (inr past) = inl past
 
   some_longest : pos 0 ≤ℤ c.longest
   some_longest = subst (λ (x : ℤ). pos 0 ≤ℤ x) (sym bs.longest) fair.longest
-
-  past_none : (v d by : ℤ) → v ≤ℤ d → pos 0 ≤ℤ by → v ≤ℤ (d +ℤ by)
-  past_none v d by h k = omega (arith, ints, h, k)
-
-  goes : (u v w : ℤ) → u ≤ℤ v → v ≤ℤ w → u ≤ℤ w
-  goes u v w h k = omega (arith, ints, h, k)
 
   behind : AreBehind c r.runnable
   behind t x at =
@@ -162,9 +150,6 @@ no_other task q r b e of_one none now t x at =
         let gone : get q.runnable t ≡ None = ap (λ (m : Tasks). get m t) none ∙ get-empty nat_cmp t in
         let here : get q.runnable t ≡ Some x = sym (of_one.others t s) ∙ at in
         absurd (cc)
-
-no_turn : {A : Type 0} (turn : ℤ) (o : Option ℤ) → o ≡ None → o ≡ Some turn → A
-no_turn turn o none is = absurd (cc)
 
 alone : (task : ℕ) (q r : State) (b c : Bounds) (e : Entry) → IsOfOne task q r → IsFair q b → q.runnable ≡ empty → get r.runnable task ≡ Some e
     → IsReached fresh c e.v → IsFair r c

@@ -17,7 +17,8 @@ fresh = record { front = neg_ℤ (pos (2 ^ 63)); furthest = neg_ℤ (pos (2 ^ 63
 abbrev pub reached : Bounds → ℤ → Bounds
 reached b v = if int_lt b.furthest v then record b { front = int_max b.front v; furthest = v } else b
 
--- some task may be past a deadline that is earlier than it knew of: the front comes to the furthest
+-- a task's deadline is earlier than its mark's, so the furthest may be past it by more than the longest turn: the front comes to the
+-- furthest, and no turn is known
 abbrev pub advanced : Bounds → Bounds
 advanced b = record b { front = int_max b.front b.furthest; turn = None }
 
