@@ -5,11 +5,11 @@ use Rattle.std.proofs.{lemmas.Bool.cases_Bool, lemmas.Bool.Decides.nat_tests, le
 use Rattle.std.proofs.lemmas.Option.{same_Some, none-some, cond_some, option_and_then_some}
 use Rattle.eevdf_weight.specs.Limits.{checked_slice, checked_tick, is_slice, is_tick}
 use Rattle.eevdf_queue.specs.Numbers.{checked_number}
-use Rattle.eevdf_ops.specs.{Numbers.cpu_limit, declared.deeds.Op.Op}
+use Rattle.eevdf_ops.specs.{Numbers.cpu_limit, declared.deeds.Op.Op, Signatures.arguments_of}
 use Rattle.eevdf_ops.specs.declared.deeds.Op.TheVariants.{Tick, Pick, Yield, Sleep, Doze, Post, Drain, Pull, Renice, Begin, End, Set, Rebase}
 use Rattle.eevdf_workload.specs.{declared.version.Version.Version, Versions.cpu_within, Versions.limits_of}
 use Rattle.eevdf_workload.specs.Words.{words, number, only_word, only_number, only_level, only_slice, level_in, task_in, alone, level_and_slice, task_level_slice, renice_of, operation, operation_by, operation_of}
-use Rattle.eevdf_bench.specs.WordsPrinted.{AreInRange, IsInRange, knows_operation, operation_text}
+use Rattle.eevdf_bench.specs.WordsPrinted.{AreInRange, IsStateInRange, knows_operation, operation_text}
 use Rattle.eevdf_bench.proofs.ReadingPrinted.{number-decimal, decimal-number, words-decimal, words-after_decimal, joined_words}
 use Rattle.eevdf_bench.proofs.LevelsPrinted.{level-printed, printed-level, words-after_level, words-printed}
 
@@ -204,14 +204,14 @@ text-words version (verb ∷ ws) op h = text-operation_of version verb ws op h
 
 -- ---- operations that are printed
 
-three-read : (task : ℕ) (nice : ℤ) (slice : ℕ) → AreInRange task nice slice
+three-read : (task : ℕ) (nice : ℤ) (slice : ℕ) → IsStateInRange task nice slice
     → task_level_slice (words (decimal task ++ (32 ∷ (signed_decimal nice ++ (32 ∷ decimal slice))))) ≡ Some (task, nice, slice)
 three-read task nice slice (few, level, fits) =
     ap task_level_slice (words-after_decimal task (signed_decimal nice ++ (32 ∷ decimal slice)) (omega (arith, few)))
     ∙ rw (words-after_level nice (decimal slice) level, words-decimal slice (small_slice slice fits), number-decimal task (omega (arith, few)), task_passes task few, level-printed nice level, number-decimal slice (small_slice slice fits), fits)
 
 -- an operation within the limits of a version is read back where it is printed
-pub operation-read : (version : Version) (op : Op) → IsInRange op → knows_operation version op ≡ true → operation (limits_of version) (words (operation_text op)) ≡ Some op
+pub operation-read : (version : Version) (op : Op) → AreInRange (arguments_of op) → knows_operation version op ≡ true → operation (limits_of version) (words (operation_text op)) ≡ Some op
 unfolding operation
 operation-read version (Tick n) h known = rw (words-decimal n (small_tick n h), number-decimal n (small_tick n h), h)
 operation-read version (Sleep n) h known = rw (words-decimal n (omega arith), number-decimal n (omega arith), task_passes n h)
@@ -231,7 +231,7 @@ operation-read version (Doze n) h known = rw (known, words-decimal n (omega arit
 operation-read version _ h known = refl
 
 -- a text is read as an operation whose numbers are in range exactly where it is that operation as it is printed
-pub operation_is_text : (version : Version) (text : List ℕ) (op : Op) → IsInRange op
+pub operation_is_text : (version : Version) (text : List ℕ) (op : Op) → AreInRange (arguments_of op)
     → (operation (limits_of version) (words text) ≡ Some op) ↔ ((text ≡ operation_text op) × (knows_operation version op ≡ true))
 operation_is_text version text op small = (
   λ h. let (printed, known) = text-words version (words text) op h in (sym (joined_words text) ∙ printed, known),

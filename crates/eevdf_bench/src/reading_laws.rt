@@ -1,11 +1,11 @@
 //! Laws of what is read: what the words of a workload are, and what its version decides.
 ghost use Rattle.std.specs.Prelude.{◌≡◌, ◌<◌, ◌↔◌, true, Some};
-ghost use Rattle.eevdf_ops.specs.{Numbers.cpu_limit, Origins.decider, Origins.origin_of};
+ghost use Rattle.eevdf_ops.specs.{Numbers.cpu_limit, Origins.decider, Origins.origin_of, Signatures.arguments_of};
 ghost use Rattle.eevdf_workload.specs.Versions.{limits_of};
 ghost use Rattle.eevdf_workload.specs.Words.{deed_in, operation, words};
-ghost use Rattle.eevdf_bench.specs.WordsPrinted.{IsInRange, IsOriginInRange, knows_deed, knows_operation, numbered_deed_text, operation_text};
+ghost use Rattle.eevdf_bench.specs.WordsPrinted.{AreInRange, IsOriginInRange, knows_deed, knows_operation, numbered_deed_text, operation_text};
 
-use eevdf_ops::{Deed, Op, Origin};
+use eevdf_ops::{Arguments, Deed, Op, Origin};
 use eevdf_workload::Version;
 pub use eevdf_workload::laws::{
     version_four_keeps_meaning, version_three_keeps_meaning, version_two_keeps_meaning,
@@ -29,30 +29,31 @@ pub fn deed_is_its_text(version: Version, text: &str, deed: Deed)
     deed_is_in_range(deed);
 }
 
-/// The numbers of an operation are in the ranges of their types.
+/// The numbers that stand behind the verb of an operation are in the ranges of their types.
 fn operation_is_in_range(op: Op)
-    ensures { IsInRange op }
+    ensures { AreInRange (arguments_of op) }
 {
-    match op {
-        Op::Tick(ns) => {
+    let (_verb, arguments) = op.signature();
+    match arguments {
+        Arguments::Nothing => {}
+        Arguments::Time(ns) => {
             let _within = ns.get();
         }
-        Op::Sleep(task) | Op::Doze(task) | Op::Post(task) | Op::End(task) => {
+        Arguments::Task(task) => {
             let _below = task.get();
         }
-        Op::Pull(source) => {
-            let _below = source.get();
-        }
-        Op::Renice(task, nice) => {
+        Arguments::Level(task, nice) => {
             let _below = task.get();
             let _level = nice.get();
         }
-        Op::Begin(task, nice, slice) | Op::Set(task, nice, slice) => {
+        Arguments::State(task, nice, slice) | Arguments::NewTask(task, nice, slice) => {
             let _below = task.get();
             let _level = nice.get();
             let _length = slice.get();
         }
-        Op::Pick | Op::Yield | Op::Drain | Op::Rebase => {}
+        Arguments::Source(source) => {
+            let _below = source.get();
+        }
     }
 }
 

@@ -1,5 +1,6 @@
 pub mod Numbers
 pub mod Origins
+pub mod Signatures
 pub mod Setup
 pub mod Homes
 pub mod Faults

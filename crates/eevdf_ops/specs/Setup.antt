@@ -2,7 +2,7 @@
 use Rattle.std.specs.Prelude.{ℕ, nat_lt, ◌==◌, Bool, true, ◌&&◌, not, List, map, length, slice_index_or}
 use Rattle.eevdf_ops.specs.{declared.task_spec.TaskSpec.TaskSpec, declared.deeds.Op.Op, declared.deeds.Deed.Deed}
 use Rattle.eevdf_ops.specs.{declared.named.Named.Named, declared.origin.Origin.Origin, Origins.decider, Origins.origin_of}
-use Rattle.eevdf_ops.specs.declared.deeds.Op.TheVariants as op
+use Rattle.eevdf_ops.specs.Signatures.{arguments_of, named_by}
 use Rattle.eevdf_ops.specs.declared.named.Named.TheVariants.{Nothing, Task, TaskAtHome, Source}
 use Rattle.eevdf_ops.specs.declared.origin.Origin.TheVariants.{Operation, Request}
 
@@ -35,19 +35,7 @@ is_source cpus cpu source = nat_lt source cpus && not (source == cpu)
 
 -- what an operation names
 abbrev pub named : Op → Named
-named (op.Sleep task) = Task task
-named (op.Doze task) = Task task
-named (op.Post task) = Task task
-named (op.Renice task nice) = Task task
-named (op.End task) = Task task
-named (op.Set task nice slice) = Task task
-named (op.Begin task nice slice) = TaskAtHome task
-named (op.Pull source) = Source source
-named (op.Tick ns) = Nothing
-named op.Pick = Nothing
-named op.Yield = Nothing
-named op.Drain = Nothing
-named op.Rebase = Nothing
+named o = named_by (arguments_of o)
 
 -- whether a machine has what an operation of a CPU names
 abbrev pub has_named : ℕ → List ℕ → ℕ → Named → Bool

@@ -1,29 +1,32 @@
 -- The texts of deeds, operations and answers.
-use Rattle.std.specs.Prelude.{ℕ, List, ◌++◌, codes, decimal}
+use Rattle.std.specs.Prelude.{ℕ, ℤ, List, [], ◌++◌, codes, decimal}
 use Rattle.std.specs.Fmt.{signed_decimal}
 use Rattle.eevdf_queue.specs.Texts.{charged_text}
 use Rattle.eevdf_ops.specs.{declared.deeds.Op.Op, declared.deeds.Deed.Deed, declared.deeds.Answer.Answer, declared.deeds.Line.Line}
 use Rattle.eevdf_ops.specs.{declared.origin.Origin.Origin, Origins.decider, Origins.origin_of}
-use Rattle.eevdf_ops.specs.declared.deeds.Op.TheVariants as op
+use Rattle.eevdf_ops.specs.{Signatures.signature, declared.signature.Arguments.Arguments}
+use Rattle.eevdf_ops.specs.declared.signature.Arguments.TheVariants as arguments
 use Rattle.eevdf_ops.specs.declared.origin.Origin.TheVariants.{Operation, Request}
 use Rattle.eevdf_ops.specs.declared.deeds.Answer.TheVariants.{Charged, Picked, Idle, Yielded, Slept, NotRunning, Woken, Awake, Pulled, Balanced, Nothing, Range, Reniced, NotHere, Begun, Ended, Rebased}
 use Rattle.eevdf_ops.specs.declared.deeds.Answer.TheVariants as answer
 
+-- a task with its level and its slice, each with a space before it
+abbrev pub state_text : ℕ → ℤ → ℕ → List ℕ
+state_text task nice slice = codes " " ++ decimal task ++ codes " " ++ signed_decimal nice ++ codes " " ++ decimal slice
+
+-- what stands behind the verb of an operation, each with a space before it
+abbrev pub arguments_text : Arguments → List ℕ
+arguments_text arguments.Nothing = []
+arguments_text (arguments.Time ns) = codes " " ++ decimal ns
+arguments_text (arguments.Task task) = codes " " ++ decimal task
+arguments_text (arguments.Level task nice) = codes " " ++ decimal task ++ codes " " ++ signed_decimal nice
+arguments_text (arguments.State task nice slice) = state_text task nice slice
+arguments_text (arguments.NewTask task nice slice) = state_text task nice slice
+arguments_text (arguments.Source source) = codes " " ++ decimal source
+
 -- an operation as a program lists it
 abbrev pub operation_text : Op → List ℕ
-operation_text (op.Tick ns) = codes "tick " ++ decimal ns
-operation_text op.Pick = codes "pick"
-operation_text op.Yield = codes "yield"
-operation_text (op.Sleep task) = codes "sleep " ++ decimal task
-operation_text (op.Doze task) = codes "doze " ++ decimal task
-operation_text (op.Post task) = codes "post " ++ decimal task
-operation_text op.Drain = codes "drain"
-operation_text (op.Pull source) = codes "pull " ++ decimal source
-operation_text (op.Renice task nice) = codes "renice " ++ decimal task ++ codes " " ++ signed_decimal nice
-operation_text (op.Begin task nice slice) = codes "begin " ++ decimal task ++ codes " " ++ signed_decimal nice ++ codes " " ++ decimal slice
-operation_text (op.End task) = codes "end " ++ decimal task
-operation_text (op.Set task nice slice) = codes "set " ++ decimal task ++ codes " " ++ signed_decimal nice ++ codes " " ++ decimal slice
-operation_text op.Rebase = codes "rebase"
+operation_text o = (signature o).0 ++ arguments_text (signature o).1
 
 -- an operation or a request as a schedule lists the deed of it
 abbrev pub origin_text : Origin → List ℕ

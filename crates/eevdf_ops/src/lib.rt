@@ -4,8 +4,9 @@
 //! A machine is the list of its CPUs' run queues. A deed is done at once and answered; the history of a list
 //! of deeds is the list of deeds with their answers, and the machine that they leave.
 //!
-//! A deed comes from an operation of its CPU's program or from a request ([`Origin`]). What the operation names
-//! ([`Named`]) decides whether a setup allows it.
+//! A deed comes from an operation of its CPU's program or from a request ([`Origin`]). An operation is a verb with
+//! [`Arguments`] ([`Op::signature`]): by these it is printed, and what they name ([`Named`]) decides whether a setup
+//! allows it.
 //!
 //! A deed is parted into its CPU and an act ([`parted`]): a [`LocalAct`] on the queue of that CPU alone, or a
 //! [`Transfer`], by which a task goes from one queue to another. [`Solo`] does acts on the queues that it has,
@@ -33,6 +34,7 @@ mod setup;
 mod setup_check;
 mod setup_fault;
 mod setup_tasks;
+mod signature;
 mod solo;
 mod task_spec;
 mod texts;
@@ -51,5 +53,6 @@ pub use parting::parted;
 pub use setup::Setup;
 pub use setup_fault::SetupFault;
 pub use setup_tasks::SetupTasks;
+pub use signature::Arguments;
 pub use solo::Solo;
 pub use task_spec::TaskSpec;

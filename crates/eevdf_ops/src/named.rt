@@ -26,16 +26,6 @@ impl Op {
     pub fn named(self) -> Named
         ensures { result ≡ named self }
     {
-        match self {
-            Op::Sleep(task)
-            | Op::Doze(task)
-            | Op::Post(task)
-            | Op::Renice(task, _)
-            | Op::End(task)
-            | Op::Set(task, _, _) => Named::Task(task),
-            Op::Begin(task, _, _) => Named::TaskAtHome(task),
-            Op::Pull(source) => Named::Source(source),
-            Op::Tick(_) | Op::Pick | Op::Yield | Op::Drain | Op::Rebase => Named::Nothing,
-        }
+        self.signature().1.named()
     }
 }

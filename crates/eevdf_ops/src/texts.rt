@@ -1,10 +1,11 @@
 //! How operations, deeds and answers print: as they stand in a program, in a script and in a report.
 
 ghost use Rattle.std.specs.Prelude.{Some};
-ghost use Rattle.eevdf_ops.specs.Texts.{answer_text, line_text, numbered_deed_text, operation_text};
+ghost use Rattle.eevdf_ops.specs.Texts.{answer_text, arguments_text, line_text, numbered_deed_text, operation_text};
 
 use crate::deeds::{Answer, Deed, Line, Op};
 use crate::origin::Origin;
+use crate::signature::Arguments;
 use std::fmt;
 
 /// The operation as a program lists it, as `tick 1000`.
@@ -12,20 +13,25 @@ impl fmt::Display for Op {
     ghost output = { λ operation. Some (operation_text operation) };
 
     fn fmt<W: fmt::Write>(&self, f: &mut fmt::Formatter<W>) -> fmt::Result {
+        let (verb, arguments) = self.signature();
+        write!(f, "{verb}{arguments}")
+    }
+}
+
+/// Each argument with a space before it, as ` 3 -5` of a level.
+impl fmt::Display for Arguments {
+    ghost output = { λ arguments. Some (arguments_text arguments) };
+
+    fn fmt<W: fmt::Write>(&self, f: &mut fmt::Formatter<W>) -> fmt::Result {
         match self {
-            Op::Tick(ns) => write!(f, "tick {ns}"),
-            Op::Pick => f.write_str("pick"),
-            Op::Yield => f.write_str("yield"),
-            Op::Sleep(task) => write!(f, "sleep {task}"),
-            Op::Doze(task) => write!(f, "doze {task}"),
-            Op::Post(task) => write!(f, "post {task}"),
-            Op::Drain => f.write_str("drain"),
-            Op::Pull(source) => write!(f, "pull {source}"),
-            Op::Renice(task, nice) => write!(f, "renice {task} {nice}"),
-            Op::Begin(task, nice, slice) => write!(f, "begin {task} {nice} {slice}"),
-            Op::End(task) => write!(f, "end {task}"),
-            Op::Set(task, nice, slice) => write!(f, "set {task} {nice} {slice}"),
-            Op::Rebase => f.write_str("rebase"),
+            Arguments::Nothing => Ok(()),
+            Arguments::Time(ns) => write!(f, " {ns}"),
+            Arguments::Task(task) => write!(f, " {task}"),
+            Arguments::Level(task, nice) => write!(f, " {task} {nice}"),
+            Arguments::State(task, nice, slice) | Arguments::NewTask(task, nice, slice) => {
+                write!(f, " {task} {nice} {slice}")
+            }
+            Arguments::Source(source) => write!(f, " {source}"),
         }
     }
 }
