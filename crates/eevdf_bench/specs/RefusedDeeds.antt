@@ -1,28 +1,10 @@
 -- The deeds of a script that are refused: what a person who wrote it takes for a mistake of the script.
-use Rattle.std.specs.Prelude.{ℕ, suc, Bool, false, true, if◌then◌else◌, List, [], ◌∷◌, Option, None, Some, Result, Ok, Err}
+use Rattle.std.specs.Prelude.{ℕ, suc, if◌then◌else◌, List, [], ◌∷◌, Option, None, Some, Result, Ok, Err}
 use Rattle.std.specs.List.{count_by}
-use Rattle.eevdf_ops.specs.{declared.deeds.Answer.Answer, declared.deeds.Deed.Deed, declared.deeds.Line.Line}
-use Rattle.eevdf_ops.specs.declared.deeds.Answer.TheVariants.{Awake, Idle, NotHere, NotRunning, Range}
-use Rattle.eevdf_ops.specs.declared.deeds.Deed.TheVariants.{Yield}
+use Rattle.eevdf_ops.specs.{declared.deeds.Deed.Deed, declared.deeds.Line.Line, Refusals.is_refused}
 use Rattle.eevdf_ops.specs.{Machine.start, Setup.Setup, Setup.homes_of, Whole.lines_of}
 use Rattle.eevdf_bench.specs.declared.refused_deeds.RefusedDeed.{RefusedDeed}
 use Rattle.eevdf_workload.specs.{declared.load_fault.LoadFault.LoadFault, Meaning.Workload, Meaning.meaning}
-
-abbrev pub is_yield : Deed → Bool
-is_yield (Yield cpu) = true
-is_yield _ = false
-
--- the machine isn't as the deed takes it to be; that there is nothing to pick, to charge or to pull is no refusal
-abbrev pub is_refusal : Answer → Deed → Bool
-is_refusal NotRunning d = true
-is_refusal Awake d = true
-is_refusal NotHere d = true
-is_refusal Range d = true
-is_refusal Idle d = is_yield d
-is_refusal _ d = false
-
-abbrev pub is_refused : Line → Bool
-is_refused line = is_refusal line.answer line.deed
 
 -- the first of these lines that is refused, where the first of them stands at a place of the script
 abbrev pub first_refused : ℕ → List Line → Option RefusedDeed

@@ -37,7 +37,7 @@ pub use program_ends::{
 };
 pub use program_words::{asks_for, is_flag, may_name_file, named_file, take_file, take_flag};
 pub use reasoned::Reasoned;
-pub use refused_deeds::{RefusedDeed, RefusedDeeds, is_refused};
+pub use refused_deeds::{RefusedDeed, RefusedDeeds};
 pub use replay_run::replay_text;
 pub use solo_run::solo_text;
 pub use told_names::told_name;

@@ -3,7 +3,7 @@
 ghost use Rattle.std.specs.Prelude.{◌≡◌, None};
 ghost use Rattle.eevdf_bench.specs.RefusedDeeds as spec;
 
-use eevdf_ops::{Answer, Deed, Line};
+use eevdf_ops::Line;
 use std::alloc::Global;
 
 /// So many refused deeds are told one by one.
@@ -60,7 +60,7 @@ fn told_of(alloc: Global, lines: &[Line]) -> Vec<RefusedDeed> {
     let mut told = Vec::new(alloc);
     for at in 0..lines.len() {
         let line = lines[at];
-        if told.len() < MOST_TOLD && is_refused(&line) {
+        if told.len() < MOST_TOLD && line.is_refused() {
             let _ = told.push(RefusedDeed { at, line });
         }
     }
@@ -74,33 +74,12 @@ fn refused_among(lines: &[Line]) -> usize
     let mut count = 0;
     let mut left = lines;
     'lines: while let [line, after @ ..] = left {
-        if is_refused(line) {
+        if line.is_refused() {
             count += 1;
         }
         left = after;
     }
     count
-}
-
-/// Whether a deed was refused: it changed nothing, since the machine wasn't as the deed takes it to be. A pick that finds nothing, the tick of
-/// idle time, and a pull that is `Nothing` or `Balanced` are none.
-pub fn is_refused(line: &Line) -> bool
-    ensures { result ≡ spec.is_refused line.now }
-{
-    match line.answer {
-        Answer::NotRunning | Answer::Awake | Answer::NotHere | Answer::Range => true,
-        Answer::Idle => is_yield(line.deed),
-        _ => false,
-    }
-}
-
-fn is_yield(deed: Deed) -> bool
-    ensures { result ≡ spec.is_yield deed }
-{
-    match deed {
-        Deed::Yield { .. } => true,
-        _ => false,
-    }
 }
 
 /// The first deed of these lines that was refused.
@@ -110,7 +89,7 @@ fn first_refused(lines: &[Line]) -> Option<RefusedDeed>
     let mut at = 0;
     let mut left = lines;
     'lines: while let [line, after @ ..] = left {
-        if is_refused(line) {
+        if line.is_refused() {
             return Some(RefusedDeed { at, line: *line });
         }
         at += 1;

@@ -27,5 +27,6 @@ pub mod Followed
 pub mod OwnRequests
 pub mod Given
 pub mod Texts
+pub mod Refusals
 pub mod FaultTexts
 pub mod TasksLeft

@@ -30,6 +30,7 @@ mod origin;
 mod outcome;
 mod parting;
 pub mod pull;
+mod refusals;
 mod setup;
 mod setup_check;
 mod setup_fault;
