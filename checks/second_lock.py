@@ -1,6 +1,6 @@
 #!/usr/bin/env -S python3 -B
 """checks/second_lock.py: tries bodies of eevdf_fleet in which an operation takes locks so that threads could wait for each other for ever,
-or a caller operates its seat while it looks. The compiler has to refuse each where it stands: it makes a second `HeldLocks` or
+or a caller operates its seat while it looks. The compiler has to refuse each where it stands: it makes a second `LockLeave` or
 `JournalLeave`, reaches a lock by itself, or borrows what is lent for as long as a lock is held. No file of must-fail/ can ask this, because
 what stands there has to compile. The bodies of a round are put into one copy of the crates, since the compiler tells of each; what is
 borrowed it looks at only where all else is right. The last line is 'N passed, M failed'."""
@@ -38,10 +38,10 @@ def in_a_look(call):
 # borrowed.
 ROUNDS = (
     (
-        ("a HeldLocks made by an operation", "locked_deeds.rt", BOTH,
-         BOTH.replace("held", "&mut HeldLocks { alone: std::marker::PhantomData }"), "private-field"),
-        ("a HeldLocks beside the parts that an operation was lent", "drains.rt", OWN,
-         f"let (_parts, mut second) = HeldLocks::beside(*seat); {OWN.replace('held', '&mut second')}", "move-out-of-place"),
+        ("a LockLeave made by an operation", "locked_deeds.rt", BOTH,
+         BOTH.replace("held", "&mut LockLeave { alone: std::marker::PhantomData }"), "private-field"),
+        ("a LockLeave beside the parts that an operation was lent", "drains.rt", OWN,
+         f"let (_parts, mut second) = LockLeave::beside(*seat); {OWN.replace('held', '&mut second')}", "move-out-of-place"),
         ("a JournalLeave made by an operation", "line_commits.rt", JOURNAL,
          JOURNAL.replace("leave", "&mut JournalLeave { held: std::marker::PhantomData }"), "private-field"),
         ("the lock of a queue reached by an operation", "operations.rt", "self.across(call, seat, held, &deed, other, transfer)",

@@ -6,7 +6,7 @@ use mathlib.Core.Option as option
 use lib.ListN.{get_elem?}
 use Rattle.eevdf_ops.specs.{declared.deeds.Line.Line, Machine.Machine, Machine.queue_at}
 use Rattle.eevdf_fleet.specs.{declared.board.claims.Terms.Terms, declared.board.claims.View.View}
-use Rattle.eevdf_fleet.specs.Claims.{Subject, seat, queue, journal, once, times, IsKept, AllTell, claims_from, knowing, no_posts, opening, start}
+use Rattle.eevdf_fleet.specs.Claims.{Subject, seat, queue, journal, once, times, IsOnTerms, AllTell, claims_from, knowing, no_posts, opening, start}
 use Rattle.eevdf_fleet.specs.declared.board.claims.PostClaim.TheVariants.{Posts}
 use Rattle.eevdf_fleet.specs.PostClaims.{AllSay, is_of, posts_from, posts_times, tasks_to}
 use Rattle.eevdf_ops.specs.Setup.{cpus_of}
@@ -87,7 +87,7 @@ opened_posts t zero v e =
     subst (λ (u : View). AllSay (λ sender. replicate (cpus_of t.setup.value) []) u.posts) (option.some-injective _ _ e) (none-posted (cpus_of t.setup.value) 0 (cpus_of t.setup.value))
 opened_posts t (suc id) v e = absurd (option.some-ne-none v (sym e))
 
-pub opens : (t : Terms) → IsKept t [] → IsOneHistory t (knowing t (opening t) (no_posts t) ∷ [])
+pub opens : (t : Terms) → IsOnTerms t [] → IsOneHistory t (knowing t (opening t) (no_posts t) ∷ [])
 opens t kept = record {
   lines = [];
   kept = kept;

@@ -11,7 +11,7 @@ use Rattle.eevdf_ops.proofs.{LocalParts.others_stay, WholePlaces.whole-placed}
 use Rattle.eevdf_fleet.specs.{declared.board.claims.Terms.Terms, declared.board.claims.Claim.Claim}
 use Rattle.eevdf_fleet.specs.declared.board.claims.Said.{Said}
 use Rattle.eevdf_fleet.specs.declared.board.claims.Claim.TheVariants.{Seat, Queue, Journal, Past}
-use Rattle.eevdf_fleet.specs.Claims.{Subject, seat, queue, journal, once, here, times, touches, homes, told, IsKept, FitsQuota, HasRoom, Tells, AllTell, Agrees, AllAgree, Owes, advanced}
+use Rattle.eevdf_fleet.specs.Claims.{Subject, seat, queue, journal, once, here, times, alters, homes, told, IsOnTerms, FitsQuota, HasRoom, Tells, AllTell, HasClaimed, HasAllClaimed, Owes, advanced}
 use Rattle.eevdf_fleet.specs.Board.{held}
 use Rattle.eevdf_fleet.proofs.Told.{length-told, told-more, lines_by-more, list_all-more, history-more, deeds-more}
 
@@ -42,13 +42,13 @@ journal_stays : (quota : Option ℕ) (lines more all : List Line) → (is_some q
 journal_stays None lines more all none h = tt
 journal_stays (Some most) lines more all none h = absurd (let one : ◌≡◌ {A = ℕ} 1 0 = none refl in omega arith)
 
-stays : (t : Terms) (lines : List Line) (l : Line) (c : Claim) → ((k : Subject) → touches t k l.deed ≡ true → here k c ≡ 0) → Tells t lines c → Tells t (lines ++ l ∷ []) c
+stays : (t : Terms) (lines : List Line) (l : Line) (c : Claim) → ((k : Subject) → alters t k l.deed ≡ true → here k c ≡ 0) → Tells t lines c → Tells t (lines ++ l ∷ []) c
 stays t lines l (Seat cpu own) none h = seat_stays t lines l cpu own (decider l.deed == cpu) refl (none (seat cpu)) h
 stays t lines l (Queue cpu q) none h = queue_stays t lines l cpu (parts.touches (homes t) l.deed cpu) refl (none (queue cpu)) ∙ h
 stays t lines l (Journal all) none h = journal_stays t.quota lines (lines ++ l ∷ []) all (none journal) h
 stays t lines l (Past seen) none h = prefix-more seen lines (l ∷ []) h
 
-pub all_stay : (t : Terms) (lines : List Line) (l : Line) (cs : List Claim) → ((k : Subject) → touches t k l.deed ≡ true → times k cs ≡ 0) → AllTell t lines cs → AllTell t (lines ++ l ∷ []) cs
+pub all_stay : (t : Terms) (lines : List Line) (l : Line) (cs : List Claim) → ((k : Subject) → alters t k l.deed ≡ true → times k cs ≡ 0) → AllTell t lines cs → AllTell t (lines ++ l ∷ []) cs
 all_stay t lines l [] none h = tt
 all_stay t lines l (c ∷ cs) none h = (
   stays t lines l c (λ k e. omega (arith, none k e)) h.0,
@@ -60,23 +60,23 @@ journal_advances : (quota : Option ℕ) (lines all : List Line) (l : Line) → I
 journal_advances None lines all l h = tt
 journal_advances (Some most) lines all l h = ap (λ (x : List Line). x ++ l ∷ []) h
 
-advances : (t : Terms) (lines : List Line) (s : Said) (c : Claim) → Tells t lines c → Agrees (whole (homes t) s.line.deed (told t lines)).1 (advanced s c) → Tells t (lines ++ s.line ∷ []) (advanced s c)
+advances : (t : Terms) (lines : List Line) (s : Said) (c : Claim) → Tells t lines c → HasClaimed (whole (homes t) s.line.deed (told t lines)).1 (advanced s c) → Tells t (lines ++ s.line ∷ []) (advanced s c)
 advances t lines s (Seat cpu own) h a = lines_by-more cpu lines s.line ∙ ap (λ (x : List Line). x ++ lines_by cpu (s.line ∷ [])) h
 advances t lines s (Queue cpu q) h a = ap (λ (m : Machine). queue_at m cpu) (told-more t lines s.line) ∙ a
 advances t lines s (Journal all) h a = journal_advances t.quota lines all s.line h
 advances t lines s (Past seen) h a = prefix-more seen lines (s.line ∷ []) h
 
-pub all_advance : (t : Terms) (lines : List Line) (s : Said) (cs : List Claim) → AllTell t lines cs → AllAgree (whole (homes t) s.line.deed (told t lines)).1 (map (advanced s) cs) → AllTell t (lines ++ s.line ∷ []) (map (advanced s) cs)
+pub all_advance : (t : Terms) (lines : List Line) (s : Said) (cs : List Claim) → AllTell t lines cs → HasAllClaimed (whole (homes t) s.line.deed (told t lines)).1 (map (advanced s) cs) → AllTell t (lines ++ s.line ∷ []) (map (advanced s) cs)
 all_advance t lines s [] h a = tt
 all_advance t lines s (c ∷ cs) h a = (advances t lines s c h.0 a.0, all_advance t lines s cs h.1 a.1)
 
-agrees : (t : Terms) (lines : List Line) (c : Claim) → Tells t lines c → Agrees (told t lines) c
+agrees : (t : Terms) (lines : List Line) (c : Claim) → Tells t lines c → HasClaimed (told t lines) c
 agrees t lines (Seat cpu own) h = tt
 agrees t lines (Queue cpu q) h = h
 agrees t lines (Journal all) h = tt
 agrees t lines (Past seen) h = tt
 
-pub all_agree : (t : Terms) (lines : List Line) (cs : List Claim) → AllTell t lines cs → AllAgree (told t lines) cs
+pub all_agree : (t : Terms) (lines : List Line) (cs : List Claim) → AllTell t lines cs → HasAllClaimed (told t lines) cs
 all_agree t lines [] h = tt
 all_agree t lines (c ∷ cs) h = (agrees t lines c h.0, all_agree t lines cs h.1)
 
@@ -96,7 +96,7 @@ fits-more (Some most) lines l some had = λ cpu. subst (λ (x : List Line). leng
     (room_by cpu most lines l (decider l.deed == cpu) refl some (had cpu))
 
 -- a line that is owed is allowed on the machine so far
-pub suited : (t : Terms) (lines : List Line) (cs : List Claim) (s : Said) → IsKept t lines → Owes t cs s → Fits (homes t) s.line.deed (told t lines)
+pub suited : (t : Terms) (lines : List Line) (cs : List Claim) (s : Said) → IsOnTerms t lines → Owes t cs s → Fits (homes t) s.line.deed (told t lines)
 suited t lines cs s kept owed =
     let many : length (told t lines) ≡ cpus_of t.setup.value = length-told t lines in
     record {
@@ -105,7 +105,7 @@ suited t lines cs s kept owed =
     }
 
 -- the history goes on by a line that is owed
-pub kept-more : (t : Terms) (lines : List Line) (cs : List Claim) (s : Said) → IsKept t lines → AllTell t lines cs → Owes t cs s → IsKept t (lines ++ s.line ∷ [])
+pub kept-more : (t : Terms) (lines : List Line) (cs : List Claim) (s : Said) → IsOnTerms t lines → AllTell t lines cs → Owes t cs s → IsOnTerms t (lines ++ s.line ∷ [])
 kept-more t lines cs s kept tell owed =
     let m : Machine = told t lines in
     let suits : Fits (homes t) s.line.deed m = suited t lines cs s kept owed in

@@ -8,7 +8,7 @@ use Rattle.std.proofs.lemmas.Option.{none-some, slice_get-map}
 use Rattle.eevdf_ops.specs.{declared.deeds.Answer.Answer, declared.deeds.Deed.Deed, declared.deeds.Line.Line}
 use Rattle.eevdf_ops.specs.{Outcome.machine_of, Parts.decider, Programs.lines_by, Setup.cpus_of}
 use Rattle.eevdf_fleet.specs.{declared.board.claims.Terms.Terms, declared.closing.ClosedQueues.ClosedQueues, declared.drains.Drained.Drained, declared.wake_list.DrainedWake.DrainedWake}
-use Rattle.eevdf_fleet.specs.{Claims.IsKept, Closings.AreClosed, Drains.ArePartsDrained}
+use Rattle.eevdf_fleet.specs.{Claims.IsOnTerms, Closings.AreClosed, Drains.ArePartsDrained}
 use Rattle.eevdf_fleet.specs.Drains as drains
 use Rattle.eevdf_fleet.specs.Fleets as fleets
 use Rattle.eevdf_fleet.specs.Fleets.{AreKnown, HasCommitted, IsRoomFor, Parts, PartsLooked, PartsSeeMore, seats_in}
@@ -18,7 +18,7 @@ use Rattle.eevdf_fleet.specs.Endless.{AllPostsTold, AreListed, AreOfOneHistory, 
 pub any-room : (quota : Option ℕ) (count room : ℕ) → quota ≡ None → IsRoomFor quota count room
 any-room quota count room none = subst (λ (q : Option ℕ). IsRoomFor q count room) (sym none) tt
 
-pub one-thread : (t : Terms) (lines : List Line) → IsKept t lines → IsOneThread t.setup.value lines
+pub one-thread : (t : Terms) (lines : List Line) → IsOnTerms t lines → IsOneThread t.setup.value lines
 one-thread t lines kept = record { history = kept.history; allowed = kept.allowed; places = kept.placed }
 
 pub has-seen : (t : Terms) (p : Parts) → AreKnown t p → HasSeen t.setup.value (seat_of_parts p)

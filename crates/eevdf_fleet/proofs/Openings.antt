@@ -7,7 +7,7 @@ use Rattle.eevdf_queue.specs.State.{View}
 use Rattle.eevdf_ops.specs.Outcome.{machine_of}
 use Rattle.eevdf_fleet.specs.{declared.board.claims.Terms.Terms, declared.board.claims.Claim.Claim}
 use Rattle.eevdf_fleet.specs.declared.board.claims.Claim.TheVariants.{Seat, Queue, Journal, Past}
-use Rattle.eevdf_fleet.specs.Claims.{Subject, seat, queue, journal, once, times, IsKept, claims_from}
+use Rattle.eevdf_fleet.specs.Claims.{Subject, seat, queue, journal, once, times, IsOnTerms, claims_from}
 use Rattle.eevdf_fleet.specs.SeatLogs.{IsRecord, KnowsOwn, own_in, seen_in}
 use Rattle.eevdf_fleet.specs.Fleets.{AreParts, SeatLog, fresh_log, fresh_logs, fresh_parts, parts_of, quota_in, takes_by}
 use Rattle.eevdf_fleet.specs.Rings.{Posts, Takes, no_posts, no_takes}
@@ -50,7 +50,7 @@ other-claims qs n q y claims others h e is rest =
     ∙ ap (λ (k : ℕ). claims_from (n + 1) (drop k (machine_of (set qs n y)))) (let s : suc n ≡ n + 1 = omega arith in s)
 
 -- what the seat of a CPU knows at the start
-pub knows-first : (t : Terms) (cpu : ℕ) (claims : List Claim) → IsKept t [] → claims ≡ Past [] ∷ Seat cpu [] ∷ [] → KnowsOwn t cpu claims
+pub knows-first : (t : Terms) (cpu : ℕ) (claims : List Claim) → IsOnTerms t [] → claims ≡ Past [] ∷ Seat cpu [] ∷ [] → KnowsOwn t cpu claims
 knows-first t cpu claims begun is = subst (KnowsOwn t cpu) (sym is) (record {
   claims_are = refl;
   known = record { kept = begun; tell = (([], refl), (refl, tt)); once = few };

@@ -11,7 +11,7 @@ use Rattle.eevdf_ops.proofs.DeedNames.{PullNames, decider_below, transfer_names}
 use Rattle.eevdf_ops.proofs.{ActDeeds.across-touches, ActDeeds.local-touches, MapCounts.equal, WholeActs.two-left, WholeActs.whole-by}
 use Rattle.eevdf_fleet.specs.{declared.board.claims.Terms.Terms, declared.board.claims.Claim.Claim, declared.board.claims.Said.Said}
 use Rattle.eevdf_fleet.specs.declared.board.claims.Claim.TheVariants.{Queue}
-use Rattle.eevdf_fleet.specs.Claims.{queue, once, times, homes, AllAgree, OwesQueues, advanced}
+use Rattle.eevdf_fleet.specs.Claims.{queue, once, times, homes, HasAllClaimed, OwesQueues, advanced}
 use Rattle.eevdf_fleet.specs.TouchedQueues.{AreDoneFrom, IsDoneFrom}
 use Rattle.eevdf_fleet.proofs.{Advances.one-advanced, Advances.two-advanced}
 
@@ -26,13 +26,13 @@ owes-one t cpu claims after s own may done at is =
           omega arith);
       allowed = may;
       answers = λ m fits agree.
-          let held : AllAgree m (Queue cpu done.before ∷ []) = subst (λ (cs : List Claim). AllAgree m cs) done.claimed agree in
+          let held : HasAllClaimed m (Queue cpu done.before ∷ []) = subst (λ (cs : List Claim). HasAllClaimed m cs) done.claimed agree in
           ap (λ (r : Answer × Machine). r.0) (whole-by (homes t) d m cpu (act.Local done.by) done.local own)
           ∙ ap (λ (q : State). (local_done done.by q).0) held.0 ∙ sym done.answers;
       changes = λ m fits agree.
-          let held : AllAgree m (Queue cpu done.before ∷ []) = subst (λ (cs : List Claim). AllAgree m cs) done.claimed agree in
+          let held : HasAllClaimed m (Queue cpu done.before ∷ []) = subst (λ (cs : List Claim). HasAllClaimed m cs) done.claimed agree in
           let below : cpu < length m = subst (λ (n : ℕ). n < length m) own (decider_below (length m) (homes t) d fits.allowed) in
-          subst (λ (cs : List Claim). AllAgree (whole (homes t) d m).1 cs) (sym (ap (map (advanced s)) done.claimed ∙ one-advanced s cpu done.before after at is)) (
+          subst (λ (cs : List Claim). HasAllClaimed (whole (homes t) d m).1 cs) (sym (ap (map (advanced s)) done.claimed ∙ one-advanced s cpu done.before after at is)) (
             ap (λ (r : Answer × Machine). queue_at r.1 cpu) (whole-by (homes t) d m cpu (act.Local done.by) done.local own)
                 ∙ get_or-set_same m cpu (local_done done.by (queue_at m cpu)).1 empty_state below
                 ∙ ap (λ (q : State). (local_done done.by q).1) held.0 ∙ sym done.leaves,
@@ -67,15 +67,15 @@ two-owes t cpu claims s own own_queue apart' may done =
           (ap (λ (n : ℕ). (c == n) || (c == other)) (sym by_one) ∙ sym (across-touches (homes t) d other done.by c done.across) ∙ e));
       allowed = may;
       answers = λ m fits agree.
-          let held : AllAgree m (Queue one done.before ∷ Queue other done.other_before ∷ []) = subst (λ (cs : List Claim). AllAgree m cs) done.claimed agree in
+          let held : HasAllClaimed m (Queue one done.before ∷ Queue other done.other_before ∷ []) = subst (λ (cs : List Claim). HasAllClaimed m cs) done.claimed agree in
           ap (λ (r : Answer × Machine). r.0) (whole-by (homes t) d m one (act.Transfer other done.by) done.across by_one)
           ∙ ap (λ (q : State). (transferred done.by q (queue_at m other)).0) held.0 ∙ ap (λ (q : State). (transferred done.by done.before q).0) held.1.0 ∙ sym done.answers;
       changes = λ m fits agree.
-          let held : AllAgree m (Queue one done.before ∷ Queue other done.other_before ∷ []) = subst (λ (cs : List Claim). AllAgree m cs) done.claimed agree in
+          let held : HasAllClaimed m (Queue one done.before ∷ Queue other done.other_before ∷ []) = subst (λ (cs : List Claim). HasAllClaimed m cs) done.claimed agree in
           let named : PullNames (length m) (decider d) other = transfer_names (length m) (homes t) d other done.by fits.allowed fits.cpus done.across in
           let left = two-left m one other (transferred done.by (queue_at m one) (queue_at m other)) (λ e. apart (sym e)) (omega (arith, named.puller, by_one)) named.from in
           let same : whole (homes t) d m ≡ done_at one (act.Transfer other done.by) m = whole-by (homes t) d m one (act.Transfer other done.by) done.across by_one in
-          subst (λ (cs : List Claim). AllAgree (whole (homes t) d m).1 cs)
+          subst (λ (cs : List Claim). HasAllClaimed (whole (homes t) d m).1 cs)
           (sym (ap (map (advanced s)) done.claimed ∙ two-advanced s one other done.before done.other_before s.first.queue.value.state s.second.queue.value.state apart refl refl refl refl)) (
             ap (λ (r : Answer × Machine). queue_at r.1 one) same ∙ left.0
                 ∙ ap (λ (q : State). (transferred done.by q (queue_at m other)).1.0) held.0 ∙ ap (λ (q : State). (transferred done.by done.before q).1.0) held.1.0 ∙ sym done.leaves,

@@ -5,7 +5,7 @@ use Rattle.std.proofs.{lemmas.Bool.and_parts, lemmas.List.length_push}
 use Rattle.eevdf_ops.specs.{declared.deeds.Line.Line, Parts.decider, Programs.deeds_of, Programs.lines_by}
 use Rattle.eevdf_ops.specs.Setup.{cpus_of, is_allowed}
 use Rattle.eevdf_ops.proofs.DeedNames.{decider_below}
-use Rattle.eevdf_fleet.specs.{declared.board.claims.Terms.Terms, Claims.once, Claims.homes, Claims.FitsQuota, Claims.HasAllRoom, Claims.IsKept}
+use Rattle.eevdf_fleet.specs.{declared.board.claims.Terms.Terms, Claims.once, Claims.homes, Claims.FitsQuota, Claims.HasAllRoom, Claims.IsOnTerms}
 use Rattle.eevdf_fleet.proofs.Sums.{sum_below, sum-most, sum-none, sum-once}
 
 count_of : List Line → ℕ → ℕ
@@ -29,18 +29,18 @@ all-counted cpus hs (l ∷ lines) ok =
     omega (arith, sum-once (count_of (l ∷ lines)) (count_of lines) (decider l.deed) cpus (λ k. counted-by l lines k (decider l.deed == k) refl) (decider_below cpus hs l.deed here), all-counted cpus hs lines rest)
 
 -- the lines of a history are no more than the quotas of all CPUs
-pub all-fit : (t : Terms) (lines : List Line) (most : ℕ) → IsKept t lines → FitsQuota (Some most) lines → length lines ≤ cpus_of t.setup.value * most
+pub all-fit : (t : Terms) (lines : List Line) (most : ℕ) → IsOnTerms t lines → FitsQuota (Some most) lines → length lines ≤ cpus_of t.setup.value * most
 unfolding count_of
 all-fit t lines most kept fits =
     let total : sum_below (count_of lines) (cpus_of t.setup.value) ≡ length lines = all-counted (cpus_of t.setup.value) (homes t) lines kept.allowed in
     omega (arith, sum-most (count_of lines) most (cpus_of t.setup.value) fits, total)
 
 -- the journal has room for a line with which its lines are a history
-journal-room-by : (quota : Option ℕ) (t : Terms) (lines all more : List Line) (capacity : ℕ) → IsKept t lines → FitsQuota quota lines → HasAllRoom quota (cpus_of t.setup.value) capacity
+journal-room-by : (quota : Option ℕ) (t : Terms) (lines all more : List Line) (capacity : ℕ) → IsOnTerms t lines → FitsQuota quota lines → HasAllRoom quota (cpus_of t.setup.value) capacity
     → IfSome quota (λ (most : ℕ). lines ≡ more) → length more ≡ suc (length all) → length all < capacity
 journal-room-by None t lines all more capacity kept fits room is one = absurd room
 journal-room-by (Some most) t lines all more capacity kept fits room is one = omega (arith, all-fit t lines most kept fits, ap (λ (l : List Line). length l) is, room, one)
 
-pub journal-room : (t : Terms) (lines all : List Line) (l : Line) (capacity : ℕ) → IsKept t lines → HasAllRoom t.quota (cpus_of t.setup.value) capacity
+pub journal-room : (t : Terms) (lines all : List Line) (l : Line) (capacity : ℕ) → IsOnTerms t lines → HasAllRoom t.quota (cpus_of t.setup.value) capacity
     → IfSome t.quota (λ (most : ℕ). lines ≡ all ++ l ∷ []) → length all < capacity
 journal-room t lines all l capacity kept room is = journal-room-by t.quota t lines all (all ++ l ∷ []) capacity kept kept.fits room is (omega (arith, length_push all l))

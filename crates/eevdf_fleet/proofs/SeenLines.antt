@@ -5,7 +5,7 @@ use mathlib.Core.List.{IsPrefix}
 use Rattle.eevdf_ops.specs.declared.deeds.Line.{Line}
 use Rattle.eevdf_fleet.specs.declared.board.claims.{Claim.Claim, Terms.Terms}
 use Rattle.eevdf_fleet.specs.declared.board.claims.Claim.TheVariants.{Past}
-use Rattle.eevdf_fleet.specs.{Board.HasLooked, Claims.IsKept, Endless.Agree}
+use Rattle.eevdf_fleet.specs.{Board.HasLooked, Claims.IsOnTerms, Endless.Agree}
 use Rattle.eevdf_fleet.proofs.EndlessSeats.{one-thread}
 
 -- of two beginnings of one list one begins the other
@@ -20,7 +20,7 @@ in-line (x ∷ xs) (y ∷ ys) (z ∷ all) h k =
     (λ (p : IsPrefix ys xs). inr (p.0, cc (same, p.1)))
     (in-line xs ys all (h.0, cc (h.1)) (k.0, cc (k.1)))
 
-pub agreed : (t : Terms) (seen other : List Line) (after : List Claim) → IsKept t seen → IsKept t other → HasLooked t (Past seen ∷ Past other ∷ []) after → Agree t.setup.value seen other
+pub agreed : (t : Terms) (seen other : List Line) (after : List Claim) → IsOnTerms t seen → IsOnTerms t other → HasLooked t (Past seen ∷ Past other ∷ []) after → Agree t.setup.value seen other
 agreed t seen other after kept other_kept looked =
     ⊎_elim
     (λ (p : IsPrefix seen other). record { lines = other; one_thread = one-thread t other other_kept; begins = p; other_begins = prefix_refl other; longer = inr refl })

@@ -9,14 +9,14 @@ use Rattle.eevdf_fleet.specs.{declared.board.claims.Terms.Terms, declared.board.
 use Rattle.eevdf_fleet.specs.declared.board.claims.{PostClaim.PostClaim, Said.Said}
 use Rattle.eevdf_fleet.specs.declared.board.claims.Claim.TheVariants.{Seat, Queue, Journal, Past}
 use Rattle.eevdf_fleet.specs.PostClaims.{AllSay, AreAskedFor, ArePosted, sent_in, with_post}
-use Rattle.eevdf_fleet.specs.Claims.{Subject, total, times, AllTell, AreTerms, IsKept, advanced, knowing}
+use Rattle.eevdf_fleet.specs.Claims.{Subject, total, times, AllTell, AreTerms, IsOnTerms, advanced, knowing}
 
 abbrev pub ViewTells : Terms → List Line → View → Type 0
 ViewTells t lines v = AreTerms t v.terms × AllTell t lines v.claims
 
 pub record IsOneHistory (t : Terms) (views : List View) : Type 0 where
   pub lines : List Line
-  pub kept : IsKept t lines
+  pub kept : IsOnTerms t lines
   pub fits : (id : ℕ) (v : View) → get_elem? views id ≡ option.some v → ViewTells t lines v
   pub once : (k : Subject) → total k views ≤ 1
   pub posted : ArePosted lines views
@@ -38,7 +38,7 @@ recalled lines claims = Past lines ∷ held claims
 
 -- claims hold of a history on these terms, and none of them stands twice
 pub record Known (t : Terms) (lines : List Line) (claims : List Claim) : Type 0 where
-  pub kept : IsKept t lines
+  pub kept : IsOnTerms t lines
   pub tell : AllTell t lines claims
   pub once : (k : Subject) → times k claims ≤ 1
 

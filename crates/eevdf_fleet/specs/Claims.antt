@@ -29,7 +29,7 @@ abbrev pub FitsQuota : Option ℕ → List Line → Type 0
 FitsQuota quota lines = IfSome quota (λ (most : ℕ). (cpu : ℕ) → length (lines_by cpu lines) ≤ most)
 
 -- a history on these terms
-pub record IsKept (t : Terms) (lines : List Line) : Type 0 where
+pub record IsOnTerms (t : Terms) (lines : List Line) : Type 0 where
   pub history : AreHistory (homes t) (start t) lines
   pub allowed : list_all (allows t.setup.value) (deeds_of lines) ≡ true
   pub fits : FitsQuota t.quota lines
@@ -69,10 +69,10 @@ total k [] = 0
 total k (v ∷ vs) = times k v.claims + total k vs
 
 -- whether a deed changes what holds of this
-abbrev pub touches : Terms → Subject → Deed → Bool
-touches t (seat cpu) deed = decider deed == cpu
-touches t (queue cpu) deed = parts.touches (homes t) deed cpu
-touches t journal deed = is_some t.quota
+abbrev pub alters : Terms → Subject → Deed → Bool
+alters t (seat cpu) deed = decider deed == cpu
+alters t (queue cpu) deed = parts.touches (homes t) deed cpu
+alters t journal deed = is_some t.quota
 
 -- a claim holds of a history; one of the journal says nothing where there is none
 abbrev pub Tells : Terms → List Line → Claim → Type 0
@@ -119,15 +119,15 @@ advanced s (Journal all) = Journal (all ++ s.line ∷ [])
 advanced s (Past seen) = Past seen
 
 -- a machine has the queues that are claimed
-abbrev pub Agrees : Machine → Claim → Type 0
-Agrees m (Seat cpu own) = Unit {0}
-Agrees m (Queue cpu q) = queue_at m cpu ≡ q
-Agrees m (Journal all) = Unit {0}
-Agrees m (Past seen) = Unit {0}
+abbrev pub HasClaimed : Machine → Claim → Type 0
+HasClaimed m (Seat cpu own) = Unit {0}
+HasClaimed m (Queue cpu q) = queue_at m cpu ≡ q
+HasClaimed m (Journal all) = Unit {0}
+HasClaimed m (Past seen) = Unit {0}
 
-abbrev pub AllAgree : Machine → List Claim → Type 0
-AllAgree m [] = Unit {0}
-AllAgree m (c ∷ cs) = Agrees m c × AllAgree m cs
+abbrev pub HasAllClaimed : Machine → List Claim → Type 0
+HasAllClaimed m [] = Unit {0}
+HasAllClaimed m (c ∷ cs) = HasClaimed m c × HasAllClaimed m cs
 
 -- the lines of who commits one have room for it
 abbrev pub HasRoom : Option ℕ → ℕ → Type 0
@@ -141,11 +141,11 @@ HasAllRoom (Some most) cpus capacity = cpus * most ≤ capacity
 -- what who commits a line owes: it claims all that the line changes, the line is allowed and has room, and wherever the
 -- claims hold, it is the next of the history and leaves the queues that are said
 pub record Owes (t : Terms) (claims : List Claim) (s : Said) : Type 0 where
-  pub claimed : (k : Subject) → touches t k s.line.deed ≡ true → 1 ≤ times k claims
+  pub claimed : (k : Subject) → alters t k s.line.deed ≡ true → 1 ≤ times k claims
   pub allowed : allows t.setup.value s.line.deed ≡ true
   pub room : (lines : List Line) → AllTell t lines claims → HasRoom t.quota (length (lines_by (decider s.line.deed) lines))
-  pub answers : (m : Machine) → Fits (homes t) s.line.deed m → AllAgree m claims → (whole (homes t) s.line.deed m).0 ≡ s.line.answer
-  pub changes : (m : Machine) → Fits (homes t) s.line.deed m → AllAgree m claims → AllAgree (whole (homes t) s.line.deed m).1 (map (advanced s) claims)
+  pub answers : (m : Machine) → Fits (homes t) s.line.deed m → HasAllClaimed m claims → (whole (homes t) s.line.deed m).0 ≡ s.line.answer
+  pub changes : (m : Machine) → Fits (homes t) s.line.deed m → HasAllClaimed m claims → HasAllClaimed (whole (homes t) s.line.deed m).1 (map (advanced s) claims)
 
 -- and wherever the claims hold, a wake was asked for
 abbrev pub OwesAsked : Terms → List Claim → List PostClaim → Said → Type 0
@@ -155,5 +155,5 @@ OwesAsked t claims posts s = (lines : List Line) → AllTell t lines claims → 
 pub record OwesQueues (t : Terms) (claims : List Claim) (s : Said) : Type 0 where
   pub claimed : (cpu : ℕ) → parts.touches (homes t) s.line.deed cpu ≡ true → 1 ≤ times (queue cpu) claims
   pub allowed : allows t.setup.value s.line.deed ≡ true
-  pub answers : (m : Machine) → Fits (homes t) s.line.deed m → AllAgree m claims → (whole (homes t) s.line.deed m).0 ≡ s.line.answer
-  pub changes : (m : Machine) → Fits (homes t) s.line.deed m → AllAgree m claims → AllAgree (whole (homes t) s.line.deed m).1 (map (advanced s) claims)
+  pub answers : (m : Machine) → Fits (homes t) s.line.deed m → HasAllClaimed m claims → (whole (homes t) s.line.deed m).0 ≡ s.line.answer
+  pub changes : (m : Machine) → Fits (homes t) s.line.deed m → HasAllClaimed m claims → HasAllClaimed (whole (homes t) s.line.deed m).1 (map (advanced s) claims)

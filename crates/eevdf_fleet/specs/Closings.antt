@@ -7,7 +7,7 @@ use Rattle.eevdf_ops.specs.{declared.deeds.Line.Line, Machine.queue_at, Outcome.
 use Rattle.eevdf_fleet.specs.{declared.board.claims.Terms.Terms, declared.board.claims.Claim.Claim}
 use Rattle.eevdf_fleet.specs.declared.board.claims.Claim.TheVariants.{Seat, Queue, Journal, Past}
 use Rattle.eevdf_fleet.specs.declared.closing.ClosedQueues.{ClosedQueues}
-use Rattle.eevdf_fleet.specs.{Claims.IsKept, Claims.told, Fleets.AllPostsTold, Fleets.Parts, Fleets.seats_in}
+use Rattle.eevdf_fleet.specs.{Claims.IsOnTerms, Claims.told, Fleets.AllPostsTold, Fleets.Parts, Fleets.seats_in}
 
 -- a queue that is claimed stands at its number, which is a CPU's
 abbrev pub IsPut : ℕ → List View → Claim → Type 0
@@ -45,7 +45,7 @@ pub record IsOfLines (lines : List Line) (p : Parts) : Type 0 where
 -- weren't drained are left; where a journal was kept, it has this history
 pub record AreClosed (t : Terms) (parts : List Parts) (closed : ClosedQueues) : Type 0 where
   pub lines : List Line
-  pub kept : IsKept t lines
+  pub kept : IsOnTerms t lines
   pub seats : All (IsOfLines lines) parts
   pub machine : machine_of closed.queues.items ≡ told t lines
   pub posts : AllPostsTold (cpus_of t.setup.value) (seats_in parts) lines (map (λ l. l.items) closed.left.items)

@@ -4,7 +4,7 @@ use Rattle.std.specs.{declared.alloc.Global.Global, declared.vec.Vec.Vec, List.r
 use Rattle.atomic_table.specs.Seated.{TableId}
 use Rattle.eevdf_queue.specs.State as states
 use Rattle.eevdf_ops.specs.{declared.deeds.Answer.Answer, declared.deeds.Deed.Deed, declared.deeds.Line.Line, Places.AreCpus, Programs.lines_by, Programs.wakes_from, Setup.Setup, Setup.cpus_of, Setup.homes_of}
-use Rattle.eevdf_fleet.specs.{declared.board.claims.Terms.Terms, Claims.IsKept}
+use Rattle.eevdf_fleet.specs.{declared.board.claims.Terms.Terms, Claims.IsOnTerms}
 use mathlib.Core.List.{IsPrefix}
 use Rattle.eevdf_fleet.specs.Rings.{Rings, Posts, Posted, Takes, Returned, ArePostsOf, left_of}
 
@@ -146,7 +146,7 @@ pub record HasLookedAt (home : ℕ) (before after : Parts) : Type 0 where
 
 -- what the seat has seen is a history, in which its CPU has its lines
 pub record AreKnown (t : Terms) (p : Parts) : Type 0 where
-  pub kept : IsKept t p.seen
+  pub kept : IsOnTerms t p.seen
   pub own : lines_by p.seat.cpu p.seen ≡ p.seat.log
 
 -- the seat has seen more, and nothing else has changed

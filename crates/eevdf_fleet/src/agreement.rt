@@ -1,7 +1,7 @@
 //! How what was seen at different moments, by whatever threads, is told to be of one history.
 
 ghost use Rattle.std.specs.Prelude.{◌≡◌};
-ghost use Rattle.eevdf_fleet.specs.{Claims.IsKept, Endless.Agree};
+ghost use Rattle.eevdf_fleet.specs.{Claims.IsOnTerms, Endless.Agree};
 ghost use Rattle.eevdf_fleet.specs.Fleets.{setup_of};
 
 use crate::names::Names;
@@ -15,7 +15,7 @@ impl<N: Names> RunQueues<N> {
     pub(crate) fn seen(&self, seat: &mut SeatParts<N>) -> Seen<N>
         ensures seat { seat.new ≡ seat.old }
         ensures seen { result ≡ seat.old.seen }
-        ensures kept { IsKept N.kit.terms result }
+        ensures kept { IsOnTerms N.kit.terms result }
     {
         seat.know();
         let token = self.board.recall(&mut seat.log.token);
@@ -25,7 +25,7 @@ impl<N: Names> RunQueues<N> {
         }
     }
 
-    /// The same once more.
+    /// A copy of what was seen.
     pub(crate) fn copy(&self, seen: &mut Seen<N>) -> Seen<N>
         ensures seen { seen.new ≡ seen.old }
         ensures copy { result ≡ seen.old }

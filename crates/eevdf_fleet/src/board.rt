@@ -6,7 +6,7 @@
 //! A step writes nothing that other threads read.
 
 ghost use Rattle.std.specs.Prelude.{◌≡◌, [], IfOk};
-ghost use Rattle.eevdf_fleet.specs.Claims.{IsKept, no_posts, opening};
+ghost use Rattle.eevdf_fleet.specs.Claims.{IsOnTerms, no_posts, opening};
 ghost use Rattle.eevdf_fleet.specs.Board.{IsToken, claims_of, posts_of};
 
 mod claims;
@@ -32,7 +32,7 @@ pub(crate) struct Board {
 impl Board {
     /// A board for the history that nothing stands in yet, with the token of all claims.
     pub(crate) fn open(alloc: Global, terms: &Terms) -> Result<(Board, Token), AllocError>
-        requires { IsKept terms.now [] }
+        requires { IsOnTerms terms.now [] }
         ensures terms { IfOk result (λ r. r.0.table.shared.key ≡ terms.now) }
         ensures token { IfOk result (λ r. IsToken r.0.table.shared.table_id terms.now r.1) }
         ensures claims { IfOk result (λ r. claims_of r.1 ≡ opening terms.now) }

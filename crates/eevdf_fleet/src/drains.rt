@@ -8,7 +8,7 @@ ghost use Rattle.eevdf_fleet.specs.Fleets.{IsRoomFor, PartsLooked, setup_of};
 
 use crate::call::Call;
 use crate::gate::Gate;
-use crate::locks::{HeldLocks, JournalLeave};
+use crate::locks::{JournalLeave, LockLeave};
 use crate::names::Names;
 use crate::rings::Request;
 use crate::run_queues::RunQueues;
@@ -33,7 +33,7 @@ impl<N: Names> RunQueues<N> {
         &self,
         call: &Call<'_, R, G>,
         seat: &mut SeatParts<N>,
-        held: &mut HeldLocks,
+        held: &mut LockLeave,
     ) -> Drained
         requires { IsRoomFor N.kit.terms.quota (cpus_of (setup_of N.kit)) seat.old.seat.room }
         ensures drained { ArePartsDrained seat.old seat.new result }

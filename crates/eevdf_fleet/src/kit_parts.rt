@@ -41,7 +41,7 @@ impl Model for KitParts {
     ghost use Rattle.std.specs.Prelude.{◌≡◌, ◌≤◌, [], length, vec_len, Some};
     ghost use Rattle.eevdf_ops.specs.{Numbers.most_cpus, Outcome.machine_of, Places.AreCpus};
     ghost use Rattle.eevdf_ops.specs.{Setup.cpus_of, Setup.homes_of};
-    ghost use Rattle.eevdf_fleet.specs.{Board.IsToken, Board.claims_of, Board.posts_of, Claims.IsKept, Claims.claims_from};
+    ghost use Rattle.eevdf_fleet.specs.{Board.IsToken, Board.claims_of, Board.posts_of, Claims.IsOnTerms, Claims.claims_from};
     ghost use Rattle.eevdf_fleet.specs.Claims.{no_posts};
     ghost use Rattle.eevdf_fleet.specs.Fleets.{HasLines};
 
@@ -52,7 +52,7 @@ impl Model for KitParts {
         × (vec_len k.queues ≡ cpus_of k.board.table.shared.key.setup.value)
         × HasLines k.board.table.shared.key.quota (cpus_of k.board.table.shared.key.setup.value) k.lines
         × (k.quota ≡ k.board.table.shared.key.quota)
-        × IsKept k.board.table.shared.key []
+        × IsOnTerms k.board.table.shared.key []
         × AreCpus (cpus_of k.board.table.shared.key.setup.value)
         (homes_of k.board.table.shared.key.setup.value)
         × (cpus_of k.board.table.shared.key.setup.value ≤ most_cpus)

@@ -7,7 +7,7 @@ ghost use Rattle.eevdf_fleet.specs.Drains.{AreListed, ArePartsDrained, IsPickedA
 ghost use Rattle.eevdf_fleet.specs.Fleets.{AreKnown, IsRoomFor, setup_of};
 
 use crate::drains::Drained;
-use crate::locks::HeldLocks;
+use crate::locks::LockLeave;
 use crate::names::Names;
 use crate::run_queues::RunQueues;
 use crate::seat_parts::SeatParts;
@@ -31,7 +31,7 @@ impl<N: Names> RunQueues<N> {
         &self,
         rt: &R,
         seat: &mut SeatParts<N>,
-        held: &mut HeldLocks,
+        held: &mut LockLeave,
         wakes: &mut Vec<DrainedWake>,
     ) -> ListedDrain
         requires room { IsRoomFor N.kit.terms.quota (cpus_of (setup_of N.kit)) seat.old.seat.room }

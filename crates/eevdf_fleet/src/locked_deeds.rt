@@ -11,7 +11,7 @@ use crate::board::Token;
 use crate::call::Call;
 use crate::gate::Gate;
 use crate::line_commits::{change, said_both};
-use crate::locks::{HeldLocks, JournalLeave};
+use crate::locks::{JournalLeave, LockLeave};
 use crate::names::Names;
 use crate::run_queues::RunQueues;
 use crate::seat_log::SeatLog;
@@ -30,7 +30,7 @@ impl<N: Names> RunQueues<N> {
         &self,
         call: &Call<'_, R, G>,
         seat: &mut SeatParts<N>,
-        held: &mut HeldLocks,
+        held: &mut LockLeave,
         deed: &Deed,
         act: LocalAct,
     ) -> Answer
@@ -51,7 +51,7 @@ impl<N: Names> RunQueues<N> {
         &self,
         call: &Call<'_, R, G>,
         seat: &mut SeatParts<N>,
-        held: &mut HeldLocks,
+        held: &mut LockLeave,
         deed: &Deed,
         other: CpuId,
         transfer: Transfer,

@@ -6,7 +6,7 @@ ghost use Rattle.eevdf_ops.specs.Numbers.{most_cpus};
 ghost use Rattle.eevdf_ops.specs.{Outcome.machine_of, Places.AreCpus, Setup.cpus_of};
 ghost use Rattle.eevdf_ops.specs.{Setup.homes_of};
 ghost use Rattle.eevdf_fleet.specs.declared.board.claims.Claim.TheVariants as claim;
-ghost use Rattle.eevdf_fleet.specs.{Board.IsToken, Board.claims_of, Board.posts_of, Claims.IsKept, Claims.claims_from};
+ghost use Rattle.eevdf_fleet.specs.{Board.IsToken, Board.claims_of, Board.posts_of, Claims.IsOnTerms, Claims.claims_from};
 ghost use Rattle.eevdf_fleet.specs.Claims.{no_posts};
 ghost use Rattle.eevdf_fleet.specs.Fleets.{HasLines, all_fresh_parts, capacity_of, fresh_log, fresh_logs};
 ghost use Rattle.eevdf_fleet.specs.Fleets.{quota_of, setup_of};
@@ -49,7 +49,7 @@ pub(crate) fn open_all<N: Names>(
     requires claims { claims_of token ≡ claims_from 0 (machine_of queues.items) }
     requires cpus { vec_len queues ≡ cpus_of (setup_of N.kit) }
     requires few { cpus_of (setup_of N.kit) ≤ most_cpus }
-    requires begun { IsKept N.kit.terms [] }
+    requires begun { IsOnTerms N.kit.terms [] }
     requires room { room ≡ quota_of N.kit }
     ensures logs { IfOk result (λ o. o.logs.items ≡ fresh_logs (quota_of N.kit) (cpus_of (setup_of N.kit))) }
     ensures locks { IfOk result (λ o. vec_len o.locks ≡ cpus_of (setup_of N.kit)) }
@@ -85,7 +85,7 @@ fn open_next<N: Names>(
         ≡ claims_from cpu (drop cpu (machine_of opened.old.queues.items)) }
     requires queue { cpu < vec_len opened.old.queues }
     requires cpu { cpu < cpus_of (setup_of N.kit) }
-    requires begun { IsKept N.kit.terms [] }
+    requires begun { IsOnTerms N.kit.terms [] }
     requires room { room ≡ quota_of N.kit }
     ensures log { OnOk result
         (opened.new.logs.items ≡ opened.old.logs.items ++ fresh_log (quota_of N.kit) cpu ∷ []) }

@@ -7,7 +7,7 @@ ghost use Rattle.eevdf_fleet.specs.{Tried.has_what};
 
 use crate::call::Call;
 use crate::gate::Gate;
-use crate::locks::HeldLocks;
+use crate::locks::LockLeave;
 use crate::names::Names;
 use crate::run_queues::RunQueues;
 use crate::seat_parts::SeatParts;
@@ -21,7 +21,7 @@ impl<N: Names> RunQueues<N> {
         &self,
         call: &Call<'_, R, G>,
         seat: &mut SeatParts<N>,
-        held: &mut HeldLocks,
+        held: &mut LockLeave,
         op: Op,
     ) -> Answer
         requires deed { IsSome (deed_of seat.old.seat.cpu op) }

@@ -10,7 +10,7 @@ use crate::seen::Seen;
 use std::marker::PhantomData;
 
 impl<N: Names> RunQueues<N> {
-    /// The same once more.
+    /// A copy of what was posted.
     pub(crate) fn copy_posted(&self, posted: &mut Posted<N>) -> Posted<N>
         ensures posted { posted.new ≡ posted.old }
         ensures copy { result ≡ posted.old }

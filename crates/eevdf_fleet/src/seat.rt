@@ -4,7 +4,7 @@ ghost use Rattle.eevdf_ops.specs.Setup.{cpus_of, home_of, homes_of, is_task};
 ghost use Rattle.eevdf_fleet.specs.Fleets.{capacity_of, posted_to, quota_of, seats_in, setup_of};
 ghost use Rattle.eevdf_fleet.specs.Fleets.{with_post};
 
-use crate::locks::HeldLocks;
+use crate::locks::LockLeave;
 use crate::names::Names;
 use crate::rings::RingFull;
 use crate::seat_parts::SeatParts;
@@ -18,7 +18,7 @@ use std::marker::Model;
 #[derive(Drop)]
 pub struct Seat<N: Names> {
     pub(crate) parts: SeatParts<N>,
-    pub(crate) held: HeldLocks,
+    pub(crate) held: LockLeave,
 }
 
 impl<N: Names> Model for Seat<N> {
@@ -82,7 +82,7 @@ pub(crate) fn seats_of<N: Names>(
 {
     let mut seats = Vec::with_capacity(alloc, parts.len())?;
     for own in parts {
-        let (parts, held) = HeldLocks::beside(own);
+        let (parts, held) = LockLeave::beside(own);
         seats.push(Seat { parts, held })?;
     }
     Ok(seats)

@@ -43,7 +43,7 @@ impl<N: Names> SeatLog<N> {
     ghost use Rattle.std.specs.Prelude.{◌≡◌, ◌+◌, ◌<◌, is_some, length, true};
     ghost use Rattle.eevdf_ops.specs.Setup.{cpus_of};
     ghost use Rattle.eevdf_fleet.specs.Fleets.{quota_of, setup_of};
-    ghost use Rattle.eevdf_fleet.specs.Claims.{IsKept};
+    ghost use Rattle.eevdf_fleet.specs.Claims.{IsOnTerms};
     ghost use Rattle.eevdf_ops.specs.Programs.{lines_by};
 
     pub(crate) fn cpu(&self) -> CpuId
@@ -71,7 +71,7 @@ impl<N: Names> SeatLog<N> {
 
     /// What it has seen is a history, in which its CPU has its lines. It does nothing.
     pub(crate) fn know(&self)
-        ensures kept { IsKept N.kit.terms self.now.seen }
+        ensures kept { IsOnTerms N.kit.terms self.now.seen }
         ensures own { lines_by self.now.cpu self.now.seen ≡ self.now.lines }
     {
         // The type's invariant says it, of which a function knows that reads a field.

@@ -21,9 +21,9 @@ impl<N: Names> Model for Seen<N> {
 
     ghost use Rattle.std.specs.Prelude.{◌≡◌, [], ◌∷◌};
     ghost use Rattle.eevdf_fleet.specs.declared.board.claims.Claim.TheVariants as claim;
-    ghost use Rattle.eevdf_fleet.specs.{Board.IsToken, Claims.IsKept};
+    ghost use Rattle.eevdf_fleet.specs.{Board.IsToken, Claims.IsOnTerms};
 
     ghost invariant = { λ s. IsToken N.kit.board N.kit.terms s.token
         × (claims_of s.token ≡ claim.Past (seen_in (claims_of s.token)) ∷ [])
-        × IsKept N.kit.terms (seen_in (claims_of s.token)) };
+        × IsOnTerms N.kit.terms (seen_in (claims_of s.token)) };
 }

@@ -31,7 +31,7 @@ fn pick<N: Names, R: Wait>(rt: &R, fleet: &Fleet<N>, seat: &mut Seat<N>) -> Seen
     }
 }
 
-/// The same once more.
+/// A copy of a line and of what was seen then.
 fn copied<N: Names>(fleet: &Fleet<N>, told: &mut SeenLine<N>) -> SeenLine<N>
     ensures told { told.new ≡ told.old }
     ensures copy { result ≡ told.old }

@@ -240,7 +240,7 @@ impl<N: Names> Fleet<N> {
         self.queues.seen(&mut seat.parts)
     }
 
-    /// The same once more: one for another thread, say. It neither waits nor takes memory.
+    /// A copy of what was seen, for another thread, say. It neither waits nor takes memory.
     pub fn copy(&self, seen: &mut Seen<N>) -> Seen<N>
         ensures seen { seen.new ≡ seen.old }
         ensures copy { result ≡ seen.old }

@@ -4,7 +4,7 @@ ghost use Rattle.eevdf_ops.specs.{Programs.wakes_from, Setup.cpus_of, Setup.home
 ghost use Rattle.eevdf_fleet.specs.Fleets.{capacity_of, free_at, setup_of};
 ghost use Rattle.eevdf_fleet.specs.Endless.{HasAskedFor, HasFound, HasPosted, posted_to, seat_of_parts};
 
-use crate::locks::HeldLocks;
+use crate::locks::LockLeave;
 use crate::names::Names;
 use crate::posted::Posted;
 use crate::rings::RingFull;
@@ -21,7 +21,7 @@ use std::marker::Model;
 #[derive(Drop)]
 pub struct Seat<N: Names> {
     pub(super) parts: SeatParts<N>,
-    pub(super) held: HeldLocks,
+    pub(super) held: LockLeave,
 }
 
 impl<N: Names> Model for Seat<N> {
@@ -121,7 +121,7 @@ pub(super) fn seats_of<N: Names>(
 {
     let mut seats = Vec::with_capacity(alloc, parts.len())?;
     for own in parts {
-        let (parts, held) = HeldLocks::beside(own);
+        let (parts, held) = LockLeave::beside(own);
         seats.push(Seat { parts, held })?;
     }
     Ok(seats)

@@ -1,5 +1,5 @@
 use crate::journal::Journal;
-use crate::locks::held_locks::JournalLeave;
+use crate::locks::lock_leave::JournalLeave;
 use crate::names::Names;
 use crossbeam_utils::CachePadded;
 use std::sync::{Mutex, MutexGuard, Wait};

@@ -7,7 +7,7 @@ ghost use Rattle.eevdf_ops.specs.{Machine.queue_at, Setup.cpus_of};
 ghost use Rattle.eevdf_fleet.specs.{Claims.told, Endless.HasShown};
 ghost use Rattle.eevdf_fleet.specs.Fleets.{AreKnown, PartsSeeMore, setup_of};
 
-use crate::locks::held_locks::HeldLocks;
+use crate::locks::lock_leave::LockLeave;
 use crate::names::Names;
 use crate::run_queues::RunQueues;
 use crate::seat_parts::SeatParts;
@@ -25,7 +25,7 @@ impl<N: Names> RunQueues<N> {
         &self,
         rt: &R,
         seat: &mut SeatParts<N>,
-        held: &mut HeldLocks,
+        held: &mut LockLeave,
         cpu: CpuId,
         observe: F,
     ) -> T

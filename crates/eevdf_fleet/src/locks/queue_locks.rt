@@ -6,7 +6,7 @@ ghost use Rattle.eevdf_ops.specs.Setup.{cpus_of};
 ghost use Rattle.eevdf_fleet.specs.Fleets.{setup_of};
 
 use crate::locks::adaptive_lock::lock_when_free;
-use crate::locks::held_locks::{HeldLocks, JournalLeave};
+use crate::locks::lock_leave::{JournalLeave, LockLeave};
 use crate::locks::taken_locks::TakenLocks;
 use crate::names::Names;
 use crate::run_queues::RunQueues;
@@ -39,7 +39,7 @@ impl<N: Names> RunQueues<N> {
     pub(crate) fn hold_both<'a, R: Wait>(
         &'a self,
         rt: &R,
-        held: &'a mut HeldLocks,
+        held: &'a mut LockLeave,
         cpu: CpuId,
         other: CpuId,
     ) -> (
@@ -70,7 +70,7 @@ impl<N: Names> RunQueues<N> {
     pub(crate) fn hold<'a, R: Wait>(
         &'a self,
         rt: &R,
-        held: &'a mut HeldLocks,
+        held: &'a mut LockLeave,
         cpu: CpuId,
     ) -> (MutexGuard<'a, Slot<N>>, JournalLeave<'a>)
         requires cpu { cpu < cpus_of (setup_of N.kit) }

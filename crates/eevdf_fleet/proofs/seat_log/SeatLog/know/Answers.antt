@@ -1,10 +1,10 @@
 use Rattle.std.proofs.Common.{◌≡◌, List, subst}
 use Rattle.eevdf_ops.specs.Programs.{lines_by}
-use Rattle.eevdf_fleet.specs.{declared.board.claims.Claim.Claim, Claims.AllTell, Claims.IsKept, Board.claims_of, Fleets.SeatLog, SeatLogs.seen_in}
+use Rattle.eevdf_fleet.specs.{declared.board.claims.Claim.Claim, Claims.AllTell, Claims.IsOnTerms, Board.claims_of, Fleets.SeatLog, SeatLogs.seen_in}
 use Rattle.eevdf_fleet.proofs.seat_log.SeatLog.know.Goals as goal
 
 pub returns-clause-kept : goal.returns-clause-kept
-returns-clause-kept g c = subst (λ (s : SeatLog). IsKept g.N.Names.kit.terms s.seen) c.self.view_is c.self.invariant.1.known.kept
+returns-clause-kept g c = subst (λ (s : SeatLog). IsOnTerms g.N.Names.kit.terms s.seen) c.self.view_is c.self.invariant.1.known.kept
 
 pub returns-clause-own : goal.returns-clause-own
 returns-clause-own g c =

@@ -6,17 +6,17 @@ use std::marker::PhantomData;
 
 /// A seat's leave to hold locks, which is lent for as long as they are held. It has no bytes.
 #[derive(Drop)]
-pub(crate) struct HeldLocks {
+pub(crate) struct LockLeave {
     alone: PhantomData<()>,
 }
 
-impl HeldLocks {
+impl LockLeave {
     /// The leave of the seat that is put together of these parts. It takes them by value and gives them back: an operation has the parts
     /// of its seat by reference alone, so none can make itself a second leave.
-    pub(crate) fn beside<N: Names>(parts: SeatParts<N>) -> (SeatParts<N>, HeldLocks)
+    pub(crate) fn beside<N: Names>(parts: SeatParts<N>) -> (SeatParts<N>, LockLeave)
         ensures { result.0 ≡ parts }
     {
-        (parts, HeldLocks { alone: PhantomData })
+        (parts, LockLeave { alone: PhantomData })
     }
 
     /// The leave to take the journal's lock for as long as this one is lent for.
