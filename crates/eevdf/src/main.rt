@@ -16,7 +16,7 @@ use eevdf_bench::{
     BenchFault, NO_MEMORY, ProgramTexts, Reasoned, Watched, WorkloadText, engine_with_input,
     named_file, print, tell, tell_reason, tell_text, undone_text, write_text,
 };
-use eevdf_explain::{fault_explanation, tell_notes, tell_refused_deeds};
+use eevdf_tell::{fault_explanation, tell_notes, tell_refused_deeds};
 use std::alloc::Global;
 use std::fs::Files;
 use std::io;

@@ -1,7 +1,8 @@
-//! What is said of a workload that is refused, and of keys that nothing reads and deeds that are refused in one that isn't: what is
-//! wrong, which word or key is meant, where it stands in the text, and what is expected there.
+//! Why a workload is refused, and which of its keys nothing reads: what is wrong, which word or key is meant, where it stands in the text,
+//! and what is expected there.
 //!
-//! A fault is found as a value, and printed at the end. Reading costs nothing for it: the text is looked at again after a fault alone.
+//! A fault is found as a value, and put into words at the end. Reading costs nothing for it: the text is looked at again after a fault
+//! alone. Nothing is written here: eevdf_tell shows an explanation with its line, for the programs.
 #![tactic(auto)]
 
 mod explanation;
@@ -12,11 +13,8 @@ mod name_places;
 mod parts;
 mod positions;
 mod reason;
-mod shown;
 mod signatures;
 mod tokens;
-mod told_faults;
-mod told_notes;
 mod unread;
 mod value_faults;
 mod word_faults;
@@ -25,7 +23,7 @@ mod word_texts;
 mod written;
 
 pub use explanation::{Explanation, Mark, explain, mark_at};
+pub use positions::begins_character;
 pub use tokens::Place;
-pub use told_faults::{fault_explanation, place_explanation};
-pub use told_notes::{tell_notes, tell_refused_deeds};
+pub use unread::unread_keys;
 pub use word_texts::told_word;

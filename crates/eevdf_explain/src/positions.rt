@@ -21,8 +21,8 @@ pub(crate) fn position(before: &[u8]) -> (usize, usize)
     (line, column)
 }
 
-/// Whether a byte begins a character, and doesn't go on with one.
-pub(crate) fn begins_character(byte: u8) -> bool
+/// Whether a byte of a text in UTF-8 begins a character, and doesn't go on with one.
+pub fn begins_character(byte: u8) -> bool
     ensures { result ≡ begins_character byte }
 {
     byte < 128 || byte >= 192

@@ -2,7 +2,6 @@
 
 use crate::unread::Unread;
 use crate::word_reason::{NotAmong, WordReason};
-use eevdf_ops::Line;
 use eevdf_queue::TaskId;
 use eevdf_workload::{Key, Version, Workload};
 use std::fmt;
@@ -52,22 +51,6 @@ pub(crate) enum Reason<'a> {
     Operations {
         count: usize,
     },
-    /// A caller of an order that is to take a lock that is held.
-    Blocked {
-        cpu: u64,
-    },
-    /// An order that ends before a caller is done.
-    Short {
-        caller: usize,
-    },
-    /// A deed that was refused, and where that isn't marked its place in the script.
-    Refused {
-        line: &'a Line,
-    },
-    RefusedAt {
-        at: usize,
-        line: &'a Line,
-    },
 }
 
 impl<'a> fmt::Display for Reason<'a> {
@@ -113,18 +96,6 @@ impl<'a> fmt::Display for Reason<'a> {
             Reason::Operations { count } => {
                 write!(f, "a program of {count} operations; at most 10000")
             }
-            Reason::Blocked { cpu } => write!(
-                f,
-                "the next step of this caller takes the lock of CPU {cpu}, which another one holds"
-            ),
-            Reason::Short { caller } => {
-                write!(
-                    f,
-                    "the order ends before caller {caller} has done its program"
-                )
-            }
-            Reason::Refused { line } => write!(f, "{line}"),
-            Reason::RefusedAt { at, line } => write!(f, "script at {at}: {line}"),
         }
     }
 }

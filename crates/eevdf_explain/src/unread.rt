@@ -96,19 +96,8 @@ struct UnreadKey<'a> {
     owner: Owner,
 }
 
-/// Which keys of the workload that these bytes are nothing reads, and where, in lines. `None` where there is no memory.
-pub(crate) fn unread_keys_text(alloc: Global, file: Option<&str>, input: &[u8]) -> Option<String> {
-    let keys = unread_keys(alloc, input)?;
-    let mut text = String::new(alloc);
-    for key in keys.iter() {
-        text.push_str(key.text(alloc, file, input).ok()?.as_str())
-            .ok()?;
-    }
-    Some(text)
-}
-
 /// The first ten keys of a workload that nothing reads, each with its place and the nearest known key, and where there are more, the place
-/// of the next one. A mark lies in the bytes. `None` where there is no memory.
+/// of the next one. `None` where there is no memory.
 pub fn unread_keys(alloc: Global, bytes: &[u8]) -> Option<Vec<Explanation>> {
     let mut search = Search {
         bytes,

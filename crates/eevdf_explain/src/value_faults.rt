@@ -6,7 +6,6 @@ use crate::tokens::Place;
 use crate::word_faults::{Work, word_fault};
 use crate::word_reason::{NotAmong, Part, WordReason};
 use eevdf_ops::SetupFault;
-use eevdf_steps::PlayFault;
 use eevdf_workload::{Key, LoadFault};
 use std::alloc::{AllocError, Global};
 use toml::Value;
@@ -148,28 +147,4 @@ fn refused<'a>(machine: Machine, fault: &SetupFault, value: &Value) -> Option<Re
         | SetupFault::BadBegin { .. }
         | SetupFault::Memory => None,
     }
-}
-
-/// What is wrong with an order, and where. `None` of the fault of memory.
-pub(crate) fn order_fault(fault: &PlayFault) -> Option<(Key, Reason<'static>)> {
-    let (key, reason) = match *fault {
-        PlayFault::NoCaller { at } => (
-            Key::Order(at),
-            Reason::Says(
-                "there is no such caller; a caller is the number of a CPU of the workload",
-            ),
-        ),
-        PlayFault::Done { at } => (
-            Key::Order(at),
-            Reason::Says("this caller has done its program before"),
-        ),
-        PlayFault::Blocked { at, cpu } => (Key::Order(at), Reason::Blocked { cpu: cpu.get() }),
-        PlayFault::Short { caller } => (Key::Orders, Reason::Short { caller }),
-        PlayFault::TooLong => (
-            Key::Orders,
-            Reason::Says("an order has at most 1000000 places"),
-        ),
-        PlayFault::Memory => return None,
-    };
-    Some((key, reason))
 }

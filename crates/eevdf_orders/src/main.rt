@@ -18,7 +18,8 @@ use eevdf_bench::{
     BenchFault, NO_MEMORY, Piped, ProgramTexts, Reasoned, Watched, WorkloadText, is_flag,
     may_name_file, named_file, print, take_file, tell, tell_reason, tell_text,
 };
-use eevdf_explain::{tell_notes, told_word};
+use eevdf_explain::told_word;
+use eevdf_tell::tell_notes;
 use std::alloc::Global;
 use std::fs::Files;
 use std::io;

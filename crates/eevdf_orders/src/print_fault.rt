@@ -2,7 +2,7 @@ ghost use Rattle.std.specs.Prelude.{◌≡◌, IfOk};
 ghost use Rattle.eevdf_orders.specs.FaultLines as lines;
 
 use eevdf_bench::{BenchFault, Key, fault_text, status_of as bench_status_of};
-use eevdf_explain::{fault_explanation, place_explanation};
+use eevdf_tell::{fault_explanation, place_explanation};
 use std::alloc::{AllocError, Global};
 
 /// Why no workload was printed.

@@ -1,8 +1,9 @@
 //! What is said of a workload of phases or a trace that is refused.
 
 use eevdf_bench::{BenchFault, LoadFault, tell_text};
-use eevdf_explain::{Explanation, Mark, Place, fault_explanation};
+use eevdf_explain::{Explanation, Mark, Place};
 use eevdf_phase_text::{PhaseFault, Wrong, fault_place};
+use eevdf_tell::{explanation_text, fault_explanation};
 use eevdf_trace::{TraceFault, Wrong as WrongTrace};
 use std::alloc::Global;
 use std::ops::Range;
@@ -40,7 +41,7 @@ fn explanation(
         mark: Some(mark_of(bytes, place)?),
         message: format!(in alloc; "{wrong}").ok()?,
     };
-    explanation.text(alloc, file, bytes).ok()
+    explanation_text(alloc, &explanation, file, bytes).ok()
 }
 
 /// Says why the trace that these bytes are is refused, and where in it, and gives the status.
@@ -76,7 +77,7 @@ fn trace_explanation(
         mark: Some(mark_of(bytes, place)?),
         message: format!(in alloc; "{wrong}").ok()?,
     };
-    explanation.text(alloc, file, bytes).ok()
+    explanation_text(alloc, &explanation, file, bytes).ok()
 }
 
 /// A place in a text, with its line and its column, which counts characters.

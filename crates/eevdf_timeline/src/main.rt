@@ -39,7 +39,7 @@ use eevdf_bench::{
     WorkloadText, fault_text, named_file, print, status_of, take_file, tell, tell_reason,
     tell_text,
 };
-use eevdf_explain::{fault_explanation, tell_notes};
+use eevdf_tell::{fault_explanation, tell_notes};
 use std::alloc::Global;
 use std::fs::Files;
 use std::io;

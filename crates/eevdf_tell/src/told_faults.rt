@@ -1,9 +1,10 @@
 //! What is said of a fault beside its line.
 
-use crate::explanation::{Explanation, explain, mark_at};
-use crate::unread::unread_keys_text;
-use crate::value_faults::order_fault;
+use crate::order_faults::order_fault;
+use crate::shown::explanation_text;
+use crate::told_keys::unread_keys_text;
 use eevdf_bench::BenchFault;
+use eevdf_explain::{Explanation, explain, mark_at};
 use eevdf_steps::PlayFault;
 use eevdf_workload::{Key, LoadFault};
 use std::alloc::Global;
@@ -24,7 +25,7 @@ pub fn fault_explanation(
             return None;
         }
     };
-    let mut text = explanation.text(alloc, file, input).ok()?;
+    let mut text = explanation_text(alloc, &explanation, file, input).ok()?;
     if let (BenchFault::Load(LoadFault::Missing { .. }), None) = (fault, explanation.mark) {
         text.push_str(unread_keys_text(alloc, file, input)?.as_str())
             .ok()?;
@@ -52,5 +53,5 @@ pub fn place_explanation(
         mark: mark_at(alloc, input, key),
         message: message.to_string(alloc).ok()?,
     };
-    explanation.text(alloc, file, input).ok()
+    explanation_text(alloc, &explanation, file, input).ok()
 }

@@ -1,8 +1,7 @@
 //! An explanation as text: the file and the place, what is wrong, the line of the workload, and a mark below it.
 
-use crate::explanation::{Explanation, Mark};
-use crate::positions::begins_character;
 use eevdf_bench::told_name;
+use eevdf_explain::{Explanation, Mark, begins_character};
 use std::alloc::{AllocError, Global};
 
 /// So many characters of a line are shown at most, and so many of them before the mark.
@@ -10,43 +9,45 @@ const MOST_SHOWN: usize = 100;
 
 const MOST_BEFORE: usize = 60;
 
-impl Explanation {
-    /// What is wrong with these bytes, in lines: `line 14, column 12: `, where it has a place, and what is wrong; and then that
-    /// line and a mark below the word. Of a file it begins with its name, `FILE:14:12: ` where it has a place. Of a long line a part is
-    /// shown, and of what a terminal wouldn't print a space.
-    pub fn text(
-        &self,
-        alloc: Global,
-        file: Option<&str>,
-        bytes: &[u8],
-    ) -> Result<String, AllocError> {
-        let mut text = self.first_line(alloc, file)?;
-        if let Some(mark) = self.mark {
-            if let Some(shown) = line_at(bytes, mark.place.start) {
-                push_line(alloc, &mut text, shown, mark)?;
-                push_mark(alloc, &mut text, marked_length(bytes, mark), mark)?;
-            }
+/// What an explanation says of these bytes, in lines: `line 14, column 12: `, where it has a place, and what is wrong; and then that line and
+/// a mark below the word. Of a file it begins with its name, `FILE:14:12: ` where it has a place. Of a long line a part is shown, and of what
+/// a terminal wouldn't print a space.
+pub fn explanation_text(
+    alloc: Global,
+    explanation: &Explanation,
+    file: Option<&str>,
+    bytes: &[u8],
+) -> Result<String, AllocError> {
+    let mut text = first_line(alloc, explanation, file)?;
+    if let Some(mark) = explanation.mark {
+        if let Some(shown) = line_at(bytes, mark.place.start) {
+            push_line(alloc, &mut text, shown, mark)?;
+            push_mark(alloc, &mut text, marked_length(bytes, mark), mark)?;
         }
-        Ok(text)
     }
+    Ok(text)
+}
 
-    fn first_line(&self, alloc: Global, file: Option<&str>) -> Result<String, AllocError> {
-        let message = self.message.as_str();
-        match (file, self.mark) {
-            (None, None) => format!(in alloc; "{message}\n"),
-            (None, Some(mark)) => {
-                let (line, column) = (mark.line, mark.column);
-                format!(in alloc; "line {line}, column {column}: {message}\n")
-            }
-            (Some(file), None) => {
-                let name = told_name(alloc, file)?;
-                format!(in alloc; "{name}: {message}\n")
-            }
-            (Some(file), Some(mark)) => {
-                let name = told_name(alloc, file)?;
-                let (line, column) = (mark.line, mark.column);
-                format!(in alloc; "{name}:{line}:{column}: {message}\n")
-            }
+fn first_line(
+    alloc: Global,
+    explanation: &Explanation,
+    file: Option<&str>,
+) -> Result<String, AllocError> {
+    let message = explanation.message.as_str();
+    match (file, explanation.mark) {
+        (None, None) => format!(in alloc; "{message}\n"),
+        (None, Some(mark)) => {
+            let (line, column) = (mark.line, mark.column);
+            format!(in alloc; "line {line}, column {column}: {message}\n")
+        }
+        (Some(file), None) => {
+            let name = told_name(alloc, file)?;
+            format!(in alloc; "{name}: {message}\n")
+        }
+        (Some(file), Some(mark)) => {
+            let name = told_name(alloc, file)?;
+            let (line, column) = (mark.line, mark.column);
+            format!(in alloc; "{name}:{line}:{column}: {message}\n")
         }
     }
 }

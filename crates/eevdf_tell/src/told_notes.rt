@@ -1,9 +1,9 @@
 //! What is said of a workload that isn't refused: keys that nothing reads, and deeds of its script that were refused.
 
-use crate::explanation::{Explanation, mark_at};
-use crate::reason::Reason;
-use crate::unread::unread_keys_text;
+use crate::shown::explanation_text;
+use crate::told_keys::unread_keys_text;
 use eevdf_bench::{RefusedDeed, RefusedDeeds, WorkloadText, tell_text};
+use eevdf_explain::{Explanation, mark_at};
 use eevdf_workload::Key;
 use std::alloc::{AllocError, Global};
 
@@ -42,8 +42,8 @@ fn refused_deeds_text(
     let mut text = String::new(alloc);
     for deed in refused.told.iter() {
         let explanation = refused_deed(alloc, input, deed).ok()?;
-        text.push_str(explanation.text(alloc, file, input).ok()?.as_str())
-            .ok()?;
+        let told = explanation_text(alloc, &explanation, file, input).ok()?;
+        text.push_str(told.as_str()).ok()?;
     }
     let more = match refused.count.saturating_sub(refused.told.len()) {
         0 => return Some(text),
@@ -65,12 +65,10 @@ fn refused_deed(
     } else {
         mark_at(alloc, input, Key::Script(*at))
     };
-    let reason = match mark {
-        Some(_) => Reason::Refused { line },
-        None => Reason::RefusedAt { at: *at, line },
+    // without a mark it says where the deed stands in the script
+    let message = match mark {
+        Some(_) => format!(in alloc; "{line}")?,
+        None => format!(in alloc; "script at {at}: {line}")?,
     };
-    Ok(Explanation {
-        mark,
-        message: reason.to_string(alloc)?,
-    })
+    Ok(Explanation { mark, message })
 }
