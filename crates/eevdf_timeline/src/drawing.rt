@@ -2,24 +2,21 @@
 
 ghost use Rattle.std.specs.Prelude.{◌≡◌, false};
 
-use crate::again::{Observer, observe};
-use crate::figures::{Counts, Figures, figures_of, json_of, table_of};
 use crate::history::history_of;
-use crate::lags::{Lags, MOST_CURVES};
-use crate::moments::Moment;
-use crate::page::page_of;
-use crate::picture::picture_of;
-use crate::progress::Progress;
-use crate::race::race_of;
-use crate::scale::Scale;
-use crate::scene::Scene;
-use crate::shown::{Shown, shown_of};
-use crate::stretch_table::stretch_table_of;
-use crate::stretches::{Turns, turns_of};
-use crate::trace::trace_of;
+use crate::progress::ProgressLine;
 use crate::words::{Output, Words};
 use eevdf_bench::{BenchFault, Watched, WorkloadText, read_input, read_workload, write_text};
+use eevdf_clocks::Moment;
+use eevdf_figures::{Counts, Figures, figures_of, json_of, table_of};
 use eevdf_ops::{Setup, Solo};
+use eevdf_page::page_of;
+use eevdf_picture::picture_of;
+use eevdf_race::race_of;
+use eevdf_scene::{
+    Lags, MOST_CURVES, Notes, Observer, Scale, Scene, Shown, Turns, View, observe, shown_of,
+    stretch_table_of, turns_of,
+};
+use eevdf_trace_events::trace_of;
 use std::alloc::{AllocError, Global};
 use std::io::{Read, Write};
 use std::sync::Wait;
@@ -55,7 +52,7 @@ pub(crate) fn draw<T: Threads + Wait + Sync, R: Read, W: Write>(
     reader: &mut Watched<R>,
     writer: &mut Watched<W>,
     words: &Words,
-    progress: &Progress,
+    progress: &ProgressLine,
     input: &mut WorkloadText,
 ) -> Result<(), DrawFault>
     requires reader { reader.old.failed ≡ false }
@@ -72,30 +69,30 @@ fn text_of<T: Threads + Wait + Sync>(
     alloc: Global,
     input: &mut WorkloadText,
     words: &Words,
-    progress: &Progress,
+    progress: &ProgressLine,
 ) -> Result<Vec<u8>, DrawFault> {
     let workload = match read_workload(alloc, &input.bytes) {
         Ok(workload) => workload,
         Err(fault) => return Err(DrawFault::Bench(BenchFault::Load(fault))),
     };
     input.notes.has_unread_keys = workload.has_unread_keys();
-    if let Some(cpu) = words.cpus.beyond(workload.setup().cpus()) {
+    if let Some(cpu) = words.view.cpus.beyond(workload.setup().cpus()) {
         return Err(DrawFault::NoCpu(cpu));
     }
-    if let Some(task) = words.tasks.beyond(workload.setup().tasks()) {
+    if let Some(task) = words.view.tasks.beyond(workload.setup().tasks()) {
         return Err(DrawFault::NoTask(task));
     }
     let moments = history_of(rt, alloc, &workload, words.source, &mut input.notes.refused)?;
     let schedule = Schedule {
         setup: workload.setup(),
         moments: &moments,
-        scale: scale_of(&moments, words),
+        scale: scale_of(&moments, &words.view),
         words,
         progress,
     };
     let text = match workload.order() {
         Some(order) if words.output == Output::Race => {
-            race_of(alloc, workload.setup(), order, &moments, words)?
+            race_of(alloc, workload.setup(), order, &moments, &words.view)?
         }
         _ => schedule.output(alloc)?,
     };
@@ -109,7 +106,7 @@ struct Schedule<'a> {
     moments: &'a [Moment],
     scale: Scale,
     words: &'a Words,
-    progress: &'a Progress,
+    progress: &'a ProgressLine,
 }
 
 impl Schedule<'_> {
@@ -126,7 +123,7 @@ impl Schedule<'_> {
 
     fn listed(&self, alloc: Global) -> Result<Vec<u8>, AllocError> {
         let turns = turns_of(alloc, self.setup, self.moments)?;
-        stretch_table_of(alloc, &turns.stretches, &self.scale, self.words)
+        stretch_table_of(alloc, &turns.stretches, &self.scale, &self.words.view)
     }
 
     fn counted(&self, alloc: Global) -> Result<Figures, AllocError> {
@@ -143,7 +140,7 @@ impl Schedule<'_> {
         turns: &Turns,
     ) -> Result<Figures, AllocError> {
         counts.add_waits(&turns.rests);
-        figures_of(alloc, counts, self.words)
+        figures_of(alloc, counts, &self.words.view)
     }
 
     /// A picture or a trace.
@@ -169,7 +166,8 @@ impl Schedule<'_> {
         let mut both = LagsAndCounts { lags, counts };
         self.observe(alloc, &mut both)?;
         let figures = table_of(alloc, &self.figures(alloc, &mut both.counts, &turns)?)?;
-        page_of(alloc, &self.scene(&turns, &both.lags, &shown), &figures)
+        let scene = self.scene(&turns, &both.lags, &shown);
+        page_of(alloc, &scene, self.words.file_name(), &figures)
     }
 
     fn observe<O: Observer>(&self, alloc: Global, observer: &mut O) -> Result<(), AllocError> {
@@ -177,13 +175,20 @@ impl Schedule<'_> {
     }
 
     fn shown(&self, alloc: Global) -> Result<Shown, AllocError> {
-        shown_of(alloc, self.setup, self.moments, self.scale, self.words)
+        shown_of(
+            alloc,
+            self.setup,
+            self.moments,
+            self.scale,
+            &self.words.view,
+        )
     }
 
     /// The lags of those tasks that have curves, before the deeds are done.
     fn lags(&self, alloc: Global, shown: &mut Shown) -> Result<Lags, AllocError> {
         let tasks = shown.longest(alloc, MOST_CURVES)?;
-        Lags::new(alloc, self.setup, self.words.output, &tasks, self.scale)
+        let notes = notes_of(self.words.output);
+        Lags::new(alloc, self.setup, notes, &tasks, self.scale)
     }
 
     fn scene<'a>(&'a self, turns: &'a Turns, lags: &'a Lags, shown: &'a Shown) -> Scene<'a> {
@@ -194,7 +199,7 @@ impl Schedule<'_> {
             lags,
             shown,
             scale: self.scale,
-            words: self.words,
+            view: &self.words.view,
         }
     }
 }
@@ -228,14 +233,24 @@ impl Observer for LagsAndCounts {
     }
 }
 
+/// What is to be known of each deed, beside the lags and the loads.
+fn notes_of(output: Output) -> Notes {
+    match output {
+        Output::Page => Notes::BeforeAndAfter,
+        Output::Trace => Notes::After,
+        Output::Picture | Output::Race | Output::Table | Output::Figures | Output::Json =>
+            Notes::Nothing,
+    }
+}
+
 /// From the beginning to the end of all that was done, where the words don't say another time.
-fn scale_of(moments: &[Moment], words: &Words) -> Scale {
+fn scale_of(moments: &[Moment], view: &View) -> Scale {
     let mut end = 0;
     for moment in moments {
         end = moment.end.max(end);
     }
     Scale {
-        from: words.from,
-        to: words.to.unwrap_or(end).max(words.from),
+        from: view.from,
+        to: view.to.unwrap_or(end).max(view.from),
     }
 }

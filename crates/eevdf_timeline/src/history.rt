@@ -4,21 +4,22 @@ ghost use Rattle.std.specs.Prelude.{◌≡◌, map, IfOk};
 ghost use Rattle.eevdf_clocks.specs.Times.{moments_of};
 ghost use Rattle.eevdf_timeline.specs.Histories.{IsHistoryOf, IsOutcomeOf};
 
-use crate::moments::{Moment, timed};
 use eevdf_bench::{BenchFault, Kind, RefusedDeeds};
+use eevdf_clocks::Moment;
 use eevdf_fleet::{OpenGate, run_all};
 use eevdf_ops::one_thread::solo;
 use eevdf_ops::{Line, Outcome};
+use eevdf_scene::timed;
 use eevdf_steps::play;
 use eevdf_workload::{Key, LoadFault, Workload};
 use std::alloc::Global;
 use std::sync::Wait;
 use std::thread::Threads;
 
-/// The lines of a workload's script, of its order or of its programs run by threads, each with its time by the clocks (`eevdf_clocks`): the deeds with the answers
-/// of the one thread that does them one after the other. A workload that lacks the part is refused as by `eevdf`, an order
-/// with its fault; the only other refusals are `Memory`, and of a run that a thread was refused. The deeds of a script that were refused are
-/// left in `refused`.
+/// The lines of a workload's script, of its order or of its programs run by threads, each with its time by the clocks (`eevdf_clocks`): the
+/// deeds with the answers of the one thread that does them one after the other. A workload that lacks the part is refused as by `eevdf`, an
+/// order with its fault; the only other refusals are `Memory`, and of a run that a thread was refused. The deeds of a script that were
+/// refused are left in `refused`.
 pub fn history_of<T: Threads + Wait + Sync>(
     rt: &T,
     alloc: Global,

@@ -1,37 +1,21 @@
 //! `eevdf_timeline` reads a workload from a file or from standard input, as `eevdf` does, and draws what the scheduler answered: a picture
 //! (SVG), a page with it (HTML), a trace (Trace Event JSON), a table of what ran when, or a table of figures.
 //!
-//! `history` comes to the lines that the proved calls answer, and `moments` gives each its time; all that is written is made of these.
-//! `picture`, `page` and `trace` draw a `scene` of them, `figures` counts them, and `race` draws the steps of an order above them. `again`
-//! does the same deeds once more on a machine of its own, and `lags` and `figures::counts` look at its queues between them.
+//! `history` comes to the lines that the proved calls answer, each with its time; all that is written is made of these. `drawing` makes a
+//! scene of them (eevdf_scene), and has it drawn by eevdf_picture, eevdf_page or eevdf_trace_events, or has the lines counted by
+//! eevdf_figures or drawn below the steps of their order by eevdf_race.
 #![tactic(auto)]
 
-mod again;
 mod drawing;
-mod figures;
 mod help;
 mod history;
-mod lags;
-mod lists;
-mod marks;
-mod moments;
-mod page;
-mod picture;
 mod progress;
-mod race;
-mod scale;
-mod scene;
-mod shown;
-mod signs;
-mod stretch_table;
-mod stretches;
-mod trace;
 mod unknown_words;
 mod words;
 
 use crate::drawing::{DrawFault, draw};
 use crate::help::{HELP, USAGE};
-use crate::progress::Progress;
+use crate::progress::ProgressLine;
 use crate::unknown_words::{WITH_VALUE, beyond, unknown_word};
 use crate::words::{Words, words_of};
 use eevdf_bench::{
@@ -62,7 +46,7 @@ const OTHER_SOURCES: &[u8] =
 
 fn main(rt: HostRuntime) -> ExitCode {
     let errors = rt.stderr();
-    let progress = Progress::new(rt.stderr(), errors.is_terminal());
+    let progress = ProgressLine::new(rt.stderr(), errors.is_terminal());
     let (Ok(status) | Err(status)) = answer(&rt, &errors, rt.alloc(), &progress);
     ExitCode::from(status)
 }
@@ -72,7 +56,7 @@ fn answer<R: Env + AllocGlobal + Files + Input + Print + Threads + Wait + Sync>(
     rt: &R,
     errors: &impl Print,
     alloc: Global,
-    progress: &Progress,
+    progress: &ProgressLine,
 ) -> Result<u8, u8> {
     let mut words = TEXTS.words(rt, errors, errors, alloc)?;
     let file = take_file(&mut words, 1, &WITH_VALUE);
@@ -95,7 +79,7 @@ fn run<R: Print + Threads + Wait + Sync, W: Read + Drop>(
     rt: &R,
     errors: &impl Print,
     alloc: Global,
-    progress: &Progress,
+    progress: &ProgressLine,
     words: &Words,
     file: Option<&str>,
     workload: W,

@@ -4,6 +4,7 @@ use clap::{Arg, ArgAction, ArgMatches, Command};
 use eevdf_bench::{Kind, WordFault};
 use eevdf_ops::CpuId;
 use eevdf_queue::TaskId;
+use eevdf_scene::{Choice, View};
 use std::alloc::{AllocError, Global};
 use std::convert::AsStr;
 
@@ -26,69 +27,14 @@ pub enum Output {
     Json,
 }
 
-/// The numbers that are chosen of CPUs or of tasks.
-#[derive(Drop)]
-pub struct Choice {
-    // whether a number is chosen, by number; all are where none is named
-    chosen: Option<Vec<bool>>,
-}
-
-impl Choice {
-    /// Whether the number is chosen.
-    pub(crate) fn has(&self, number: usize) -> bool {
-        match &self.chosen {
-            None => true,
-            Some(chosen) => chosen.get(number).copied().unwrap_or(false),
-        }
-    }
-
-    /// The first number that is named of those from a count on.
-    pub(crate) fn beyond(&self, count: usize) -> Option<usize> {
-        let Some(chosen) = &self.chosen else {
-            return None;
-        };
-        for number in count..chosen.len() {
-            if chosen[number] {
-                return Some(number);
-            }
-        }
-        None
-    }
-
-    /// How many of the numbers below a count are chosen.
-    pub(crate) fn count(&self, all: usize) -> usize {
-        let mut count = 0usize;
-        for number in 0..all {
-            if self.has(number) {
-                count = count.saturating_add(1);
-            }
-        }
-        count
-    }
-
-    /// Whether what concerns this task is chosen. What concerns none is so only where no numbers are named.
-    pub(crate) fn has_task(&self, task: Option<TaskId>) -> bool {
-        match task {
-            None => self.chosen.is_none(),
-            Some(task) => self.has(task.index()),
-        }
-    }
-}
-
 /// What is asked for.
 #[derive(Drop)]
 pub struct Words {
     /// Whether the script is done, the order played or the programs run.
     pub source: Kind,
     pub output: Output,
-    /// Whether a picture has a row for each task, and not a lane for each CPU.
-    pub by_task: bool,
-    /// The first nanosecond that is drawn, or of a race the first place.
-    pub from: u64,
-    /// The nanosecond, or the place, after the last one that is drawn, where one is named.
-    pub to: Option<u64>,
-    pub cpus: Choice,
-    pub tasks: Choice,
+    /// What of the history is shown.
+    pub view: View,
     /// The name of the file that is read, where it isn't standard input.
     pub file: Option<String>,
 }
@@ -130,11 +76,13 @@ fn asked_by(
     Ok(Words {
         source,
         output,
-        by_task,
-        from: from.unwrap_or(0),
-        to,
-        cpus: Choice { chosen: cpus },
-        tasks: Choice { chosen: tasks },
+        view: View {
+            cpus: Choice::of(cpus),
+            tasks: Choice::of(tasks),
+            by_task,
+            from: from.unwrap_or(0),
+            to,
+        },
         file: match file {
             Some(name) => Some(String::from_str(alloc, name)?),
             None => None,

@@ -1,6 +1,0 @@
-use Rattle.std.proofs.Common.{◌≡◌, take}
-use Rattle.eevdf_timeline.specs.Scripts.{of_html}
-use Rattle.eevdf_timeline.proofs.page.escape.html_of.Given as goal
-
-abbrev pub invariant-loop-byte : goal.invariant-loop-byte
-invariant-loop-byte l = l.text.items ≡ of_html (take l.byte-index l.raw)
