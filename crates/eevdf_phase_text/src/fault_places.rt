@@ -3,8 +3,7 @@
 ghost use Rattle.std.specs.Prelude.{◌≤◌, length, IfSome};
 
 use crate::phase_fault::{Key, PhaseFault, Place, Wrong};
-use crate::pieces::Piece;
-use crate::text_places::{Step, find};
+use eevdf_text_places::{Step, find};
 use std::alloc::{AllocError, Global};
 use std::ops::Range;
 
@@ -16,18 +15,6 @@ pub fn fault_place(alloc: Global, bytes: &[u8], fault: &PhaseFault) -> Option<Ra
     ensures within { IfSome result (λ place. place.end ≤ length bytes.now) }
 {
     let text = std::str::from_utf8(bytes).ok()?;
-    let piece = faulty_piece(alloc, text, fault)?;
-    let start = bytes.len().checked_sub(piece.from.len())?;
-    let end = bytes.len().checked_sub(piece.behind.len())?;
-    if start <= end {
-        Some(Range { start, end })
-    } else {
-        None
-    }
-}
-
-/// What stands in a text where the fault is.
-fn faulty_piece<'a>(alloc: Global, text: &'a str, fault: &PhaseFault) -> Option<Piece<'a>> {
     let mut way = way_to(alloc, fault.place).ok()?;
     if let Some(key) = key_of(&fault.wrong) {
         way.push(Step::Key(key)).ok()?;
@@ -36,9 +23,6 @@ fn faulty_piece<'a>(alloc: Global, text: &'a str, fault: &PhaseFault) -> Option<
             return Some(if is_unknown { found.key } else { found.value });
         }
         way.pop();
-    }
-    if way.is_empty() {
-        return None;
     }
     Some(find(alloc, text, &way)?.value)
 }

@@ -2,9 +2,9 @@
 
 ghost use Rattle.std.specs.Prelude.{◌≤◌, IfOk};
 
-use crate::lengths::{MOST_NS, length};
 use crate::near_words::nearest_key;
 use crate::phase_fault::{Key, PhaseFault, Place, Wrong};
+use eevdf_time_text::{MOST_NS, length};
 use std::alloc::Global;
 use toml::{Table, Value};
 

@@ -5,18 +5,14 @@
 mod arrivals;
 mod fault_places;
 mod keys;
-mod lengths;
 mod near_words;
 mod phase_fault;
 mod phase_path;
 mod phases;
-mod pieces;
 mod reading;
 mod tasks;
-mod text_places;
 
 pub use fault_places::fault_place;
-pub use lengths::{MOST_NS, length, span};
 pub use phase_fault::{Key, PhaseFault, Place, Wrong};
 pub use phase_path::PhasePath;
 pub use reading::{MOST_BYTES, read_phases};

@@ -1,12 +1,12 @@
 //! The phases of a task.
 
 use crate::keys::{known_alone, list, number_or};
-use crate::lengths::{length, span};
 use crate::near_words::{nearest_name, nearest_phase};
 use crate::phase_fault::{Key, PhaseFault, Place, Wrong};
 use crate::phase_path::PhasePath;
 use crate::tasks::{nice_of, place_of};
 use eevdf_closed_loop::{Group, Phase, Span};
+use eevdf_time_text::{length, span};
 use std::alloc::Global;
 use toml::{Table, Value};
 
@@ -147,8 +147,9 @@ fn table_phase(
 
 /// The span that a value is.
 pub(crate) fn span_of(value: &Value, place: Place, key: Key) -> Result<Span, PhaseFault> {
-    match value.as_str() {
-        Some(text) => span(text).ok_or(place.fault(Wrong::Bad(key))),
+    let text = value.as_str().ok_or(place.fault(Wrong::Bad(key)))?;
+    match span(text) {
+        Some((least, most)) => Ok(Span { least, most }),
         None => Err(place.fault(Wrong::Bad(key))),
     }
 }

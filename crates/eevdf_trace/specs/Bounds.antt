@@ -1,11 +1,8 @@
 -- The bounds of a plan that is made of a trace.
-use Rattle.std.specs.Prelude.{ℕ, ◌≡◌, ◌≤◌, ◌^◌}
+use Rattle.std.specs.Prelude.{◌≡◌, ◌≤◌}
 use Rattle.eevdf_closed_loop.specs.{declared.plan.Plan.Plan}
 use Rattle.eevdf_ops.specs.{Numbers.most_cpus}
-
--- a million seconds, in nanoseconds
-abbrev pub most_ns : ℕ
-most_ns = 10 ^ 15
+use Rattle.eevdf_time_text.specs.Lengths.{most_ns}
 
 -- the machine has a CPU and no more than there may be, is driven for a time, of a million seconds at most, and has no clock that ticks
 pub record IsTraced (plan : Plan) : Type 0 where

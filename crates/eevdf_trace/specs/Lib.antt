@@ -1,3 +1,3 @@
 pub mod Bounds
 pub mod Courses
-pub mod Numbers
+pub mod Priorities

@@ -3,7 +3,7 @@
 
 use crate::course::Leaving;
 use crate::line_words::{without_blanks, without_blanks_behind};
-use crate::numbers::number;
+use eevdf_time_text::number;
 
 /// A task as a line tells of it.
 #[derive(Clone, Copy)]

@@ -9,7 +9,7 @@
 mod course;
 mod event_text;
 mod line_words;
-mod numbers;
+mod priorities;
 mod reading;
 mod trace_fault;
 mod trace_line;
@@ -17,6 +17,6 @@ mod track;
 mod tracks;
 
 pub use course::{Change, Course, End, Leaving, Standing, Step, end_of, step_of};
-pub use numbers::{moment, nice_at, number};
-pub use reading::{MOST_BYTES, MOST_NS, read_trace};
+pub use priorities::nice_at;
+pub use reading::{MOST_BYTES, read_trace};
 pub use trace_fault::{Place, TraceFault, Wrong};

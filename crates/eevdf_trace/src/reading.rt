@@ -10,13 +10,11 @@ use crate::trace_line::{Event, read_line};
 use crate::tracks::Tracks;
 use eevdf_closed_loop::{FallAsleep, Plan, Preempt};
 use eevdf_ops::CpuId;
+use eevdf_time_text::MOST_NS;
 use std::alloc::Global;
 
 /// The greatest number of bytes of a trace.
 pub const MOST_BYTES: usize = 16_777_216;
-
-/// The greatest length of a trace, in nanoseconds: a million seconds.
-pub const MOST_NS: u64 = 1_000_000_000_000_000;
 
 /// What has been read of a trace.
 #[derive(Drop)]

@@ -32,7 +32,7 @@ pub enum Wrong {
     BadWakeup,
     /// A line's moment is before that of an earlier line.
     Earlier,
-    /// A line's moment is more than `MOST_NS` after that of the first one.
+    /// A line's moment is more than `eevdf_time_text::MOST_NS` after that of the first one.
     TooLong,
     /// There are more tasks than `TaskId::COUNT`.
     TooMany,

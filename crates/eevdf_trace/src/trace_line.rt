@@ -2,8 +2,8 @@
 
 use crate::event_text::{Switch, Wakeup, switch_of, wakeup_of};
 use crate::line_words::{Word, next_word, without_blanks, without_blanks_behind};
-use crate::numbers::{moment, number};
 use crate::trace_fault::{Place, TraceFault, Wrong};
+use eevdf_time_text::{moment, number};
 
 /// Which event a line names.
 #[derive(Clone, Copy)]

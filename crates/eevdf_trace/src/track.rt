@@ -6,7 +6,7 @@ ghost use Rattle.eevdf_trace.specs.Courses as spec;
 
 use crate::course::{Change, Course, end_of, step_of};
 use crate::event_text::Told;
-use crate::numbers::nice_at;
+use crate::priorities::nice_at;
 use eevdf_closed_loop::{Group, Phase};
 use eevdf_ops::CpuId;
 use eevdf_weight::{Nice, Slice};

@@ -2,7 +2,7 @@
 
 use crate::course::Change;
 use crate::event_text::Told;
-use crate::numbers::nice_at;
+use crate::priorities::nice_at;
 use crate::trace_fault::Wrong;
 use crate::track::Track;
 use eevdf_closed_loop::Group;

@@ -1,6 +1,6 @@
 use Rattle.std.proofs.Common.{rules, arith}
-use Rattle.eevdf_phase_text.proofs.OneLength.{unparted, great_number, great_product}
-use Rattle.eevdf_phase_text.proofs.lengths.length.Goals as goal
+use Rattle.eevdf_time_text.proofs.OneLength.{unparted, great_number, great_product}
+use Rattle.eevdf_time_text.proofs.lengths.length.Goals as goal
 
 pub returns-in_err-digits-clause-none : goal.returns-in_err-digits-clause-none
 returns-in_err-digits-clause-none c =

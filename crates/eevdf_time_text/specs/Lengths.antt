@@ -1,6 +1,10 @@
 -- Lengths of time as they are written.
-use Rattle.std.specs.Prelude.{◌≡◌, ◌⊎◌, ◌++◌, ◌*◌, ℕ, List, codes}
+use Rattle.std.specs.Prelude.{◌≡◌, ◌⊎◌, ◌++◌, ◌*◌, ◌^◌, ℕ, List, codes}
 use Rattle.std.specs.Str.Parse.{IsNumeral, digits_value}
+
+-- a million seconds, in nanoseconds
+abbrev pub most_ns : ℕ
+most_ns = 10 ^ 15
 
 -- the text is this front with a unit behind it, which has so many nanoseconds
 abbrev pub IsParted : List ℕ → List ℕ → ℕ → Type 0

@@ -1,6 +1,6 @@
 use Rattle.std.proofs.Common.{arith, ℕ, ◌≡◌, ◌<◌, ◌≤◌, ◌⊎◌, inl, inr}
-use Rattle.eevdf_phase_text.proofs.lengths.span.Goals.{else-least-ge1-via-then-least-ge1+else-least-most, else-least-ge1-via-else-least-ge1}
-use Rattle.eevdf_phase_text.proofs.lengths.span.Goals as goal
+use Rattle.eevdf_time_text.proofs.spans.span.Goals.{else-least-ge1-via-then-least-ge1+else-least-most, else-least-ge1-via-else-least-ge1}
+use Rattle.eevdf_time_text.proofs.spans.span.Goals as goal
 
 either_end : (limit least most : ℕ) → (limit < least) ⊎ (limit < most) → least ≤ most → limit < most
 either_end limit least most (inl h) order = omega (arith, h, order)

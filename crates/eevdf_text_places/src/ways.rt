@@ -1,25 +1,27 @@
-//! Where a value of a TOML document stands in its text.
+//! The way through a TOML document to a value, followed through its text.
 
 use crate::pieces::{Header, Pair, Piece, read_header, read_item, read_pair};
 use std::alloc::Global;
 use toml_parser::text::{first, skip_blank};
 
-/// A step on the way to a value: to the one at a key of a table, or to the one at a place of a list.
+/// A step on the way to a value.
 #[derive(Clone, Copy)]
-pub(crate) enum Step<'a> {
+pub enum Step<'a> {
+    /// To the one at a key of a table.
     Key(&'a str),
+    /// To the one at a place of a list. Places count from 0.
     Item(usize),
 }
 
 /// What stands at the end of a way. Of a header, and of an item of a list, it is all in one.
 #[derive(Clone, Copy)]
-pub(crate) struct Found<'a> {
+pub(crate) struct FoundPieces<'a> {
     pub key: Piece<'a>,
     pub value: Piece<'a>,
 }
 
 /// What stands at the end of a way through the document that a text is. `None` where it isn't found, or where there is no memory.
-pub(crate) fn find<'a>(alloc: Global, text: &'a str, way: &[Step]) -> Option<Found<'a>> {
+pub(crate) fn pieces_at<'a>(alloc: Global, text: &'a str, way: &[Step]) -> Option<FoundPieces<'a>> {
     let mut items = Vec::with_capacity(alloc, way.len()).ok()?;
     for _step in 0..way.len() {
         items.push(0usize).ok()?;
@@ -48,8 +50,8 @@ pub(crate) fn find<'a>(alloc: Global, text: &'a str, way: &[Step]) -> Option<Fou
     None
 }
 
-fn all_in_one(piece: Piece<'_>) -> Found<'_> {
-    Found {
+fn all_in_one(piece: Piece<'_>) -> FoundPieces<'_> {
+    FoundPieces {
         key: piece,
         value: piece,
     }
@@ -78,13 +80,18 @@ fn steps_to(header: &Header, way: &[Step], items: &mut [usize]) -> Option<usize>
 }
 
 /// What stands at the end of a way that leads on from the table of a pair, after so many steps.
-fn in_pair<'a>(alloc: Global, pair: &Pair<'a>, way: &[Step], steps: usize) -> Option<Found<'a>> {
+fn in_pair<'a>(
+    alloc: Global,
+    pair: &Pair<'a>,
+    way: &[Step],
+    steps: usize,
+) -> Option<FoundPieces<'a>> {
     let (found, steps) = along(pair, way, steps)?;
     in_value(alloc, found, way, steps)
 }
 
 /// Goes along the names of a pair. Where the way ends among them, the key is what is found.
-fn along<'a>(pair: &Pair<'a>, way: &[Step], from: usize) -> Option<(Found<'a>, usize)> {
+fn along<'a>(pair: &Pair<'a>, way: &[Step], from: usize) -> Option<(FoundPieces<'a>, usize)> {
     let mut steps = from;
     for name in pair.names.iter() {
         steps = match way.get(steps) {
@@ -93,7 +100,7 @@ fn along<'a>(pair: &Pair<'a>, way: &[Step], from: usize) -> Option<(Found<'a>, u
             Some(_) => return None,
         };
     }
-    let found = Found {
+    let found = FoundPieces {
         key: pair.key,
         value: pair.value,
     };
@@ -101,7 +108,12 @@ fn along<'a>(pair: &Pair<'a>, way: &[Step], from: usize) -> Option<(Found<'a>, u
 }
 
 /// What stands at the end of a way that leads on into a value, after so many steps.
-fn in_value<'a>(alloc: Global, value: Found<'a>, way: &[Step], from: usize) -> Option<Found<'a>> {
+fn in_value<'a>(
+    alloc: Global,
+    value: FoundPieces<'a>,
+    way: &[Step],
+    from: usize,
+) -> Option<FoundPieces<'a>> {
     let mut found = value;
     let mut steps = from;
     for _step in 0..way.len() {
@@ -127,7 +139,7 @@ fn in_table<'a>(
     table: &'a str,
     way: &[Step],
     steps: usize,
-) -> Option<(Found<'a>, usize)> {
+) -> Option<(FoundPieces<'a>, usize)> {
     let mut rest = table.strip_prefix('{')?;
     for _pair in 0..table.len() {
         let pair = read_pair(alloc, skip_blank(rest, true))?;

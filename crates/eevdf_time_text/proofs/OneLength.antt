@@ -5,7 +5,7 @@ use Rattle.std.specs.Char.{digit_value}
 use Rattle.std.specs.Str.Parse.{AllDigits, IsNumeral, digits_value}
 use Rattle.std.specs.Str.Pattern.{LacksTextAt}
 use Rattle.std.proofs.lemmas.List.{append_cancel_right}
-use Rattle.eevdf_phase_text.specs.Lengths.{IsLength, IsOnlyPart, IsParted, IsSpan}
+use Rattle.eevdf_time_text.specs.Lengths.{IsLength, IsOnlyPart, IsParted, IsSpan}
 
 -- ---- digits, and what stands behind them
 

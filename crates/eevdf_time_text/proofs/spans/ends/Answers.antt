@@ -1,9 +1,9 @@
 use Rattle.std.proofs.Common.{ℕ, List, ◌≡◌, ◌≢◌, ◌++◌, inl, inr, ◌∙◌}
 use Rattle.std.specs.Prelude.{codes, Some, None}
 use Rattle.std.proofs.lemmas.Str.Pattern.{split_text_parts}
-use Rattle.eevdf_phase_text.specs.Lengths.{IsLength}
-use Rattle.eevdf_phase_text.proofs.OneLength.{one_length, span_cut, span_uncut}
-use Rattle.eevdf_phase_text.proofs.lengths.ends.Goals as goal
+use Rattle.eevdf_time_text.specs.Lengths.{IsLength}
+use Rattle.eevdf_time_text.proofs.OneLength.{one_length, span_cut, span_uncut}
+use Rattle.eevdf_time_text.proofs.spans.ends.Goals as goal
 
 pub returns-in_err-length-in-Some-clause-none : goal.returns-in_err-length-in-Some-clause-none
 returns-in_err-length-in-Some-clause-none c =
