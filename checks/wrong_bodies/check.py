@@ -1,12 +1,14 @@
 #!/usr/bin/env -S python3 -B
-"""checks/wrong_bodies/check.py [--anew] [--right] [CRATE | CRATE/NAME]..: tries the wrong bodies, of every crate or of those named.
+"""checks/wrong_bodies/check.py [--all] [--right] [--stale] [CRATE | CRATE/NAME]..: tries the wrong bodies of every crate, or of those
+named, that are not on record as refused.
 
 Each must be refused in the function that its line `refused:` names. Many are planted together in one copy of the crate and tried by
 one check, since a function is proved from the contracts of those that it calls, and not from their bodies. One that such a check
 doesn't say enough of is tried once more by itself. They are tried over the libraries that `rt ci` makes in a copy of the repository,
-while it goes on there; none of a crate counts that isn't proved there as it stands. One that an earlier run has seen refused isn't tried
-again while all stays the same that its refusal stands on; with --anew each is. With --right the right bodies are tried in their places,
-and each has to be proved. The last line is 'N passed, M failed'."""
+while it goes on there; none of a crate counts that isn't proved there as it stands. A refusal is put on record, in the crate's
+must-fail/refused.txt, and isn't tried again while its line fits (records.py); with --all each is. A line that is of no wrong body has
+failed, and is taken away. --stale tries nothing: it prints the crates that have some to be tried. With --right the right bodies are
+tried in their places, and each has to be proved. The last line is 'N passed, M failed'."""
 
 import argparse
 import contextlib
@@ -21,9 +23,9 @@ from pathlib import Path
 
 from edits import FUNCTION as SIGNATURE
 from edits import TOP, BadEdit, are_apart, cycles_of, edits_of, is_of_bodies, names_of
-from kept import Grounds, Refusals
 from libraries import CRATES, Libraries
 from planting import ENDS, can_be_copied, plant
+from records import Records, sums_of
 from stand_ins import make_library
 
 sys.path.append(str(TOP / "tools"))
@@ -267,54 +269,44 @@ def groups_of(crate, edits):
 
 # The run.
 
-class Run:
-    """The crates whose edits can't be tried yet, and the groups of edits that can. Of right bodies nothing is kept."""
+class Recorded:
+    """The wrong bodies of a crate, with their sums, those of them that are to be tried, and what stands on record of none."""
 
-    def __init__(self, edits, libraries, refusals, is_right):
-        self.edits = edits
+    def __init__(self, crate, edits, every, is_anew):
+        self.records = Records(crate)
+        self.sums = sums_of(crate, edits)
+        self.strange = self.records.strange(every)
+        self.stale = [edit for edit in edits if is_anew or not self.records.has(edit, self.sums[edit])]
+        self.count = len(edits) - len(self.stale)
+
+    def put(self, told):
+        """Puts on record those that are refused, unless what their refusals stand on was changed meanwhile, and no others."""
+        now = sums_of(self.records.crate, [edit for edit, *_ in told])
+        for edit, is_refused, _ in told:
+            self.records.put(edit, self.sums[edit] if is_refused and now[edit] == self.sums[edit] else None)
+
+
+class Run:
+    """The crates whose edits can't be tried yet, and the groups of edits that can. No right body is on record."""
+
+    def __init__(self, edits, recorded, libraries, is_right):
+        self.edits = {crate: them for crate, them in edits.items() if them}
+        self.recorded = recorded
         self.libraries = libraries
-        self.refusals = refusals
         self.is_right = is_right
         self.change = libraries.change
-        self.waiting = list(edits)
+        self.waiting = list(self.edits)
         self.groups = []
-        self.names = {}
         self.passed = []
-        self.kept = 0
+        self.told = {}
         self.busy = 0
-
-    def without_kept(self, crate):
-        """The edits of a crate whose refusals aren't kept. The others have passed."""
-        if self.is_right:
-            return self.edits[crate]
-        grounds = Grounds(crate, self.libraries.top)
-        left = []
-        for edit in self.edits[crate]:
-            self.names[edit] = grounds.of(edit)
-            said = self.refusals.found(self.names[edit], edit)
-            if said is None:
-                left.append(edit)
-            else:
-                print(f"kept: {edit}: {said[:240]}", flush=True)
-                self.passed.append(edit)
-                self.kept += 1
-        return left
-
-    def keep(self, crate, told):
-        """Keeps those that are refused, unless what their refusals stand on was changed meanwhile, and no others."""
-        grounds = Grounds(crate, self.libraries.top)
-        for edit, is_passed, text in told:
-            if not is_passed:
-                self.refusals.forget(self.names[edit])
-            elif grounds.of(edit) == self.names[edit]:
-                self.refusals.keep(self.names[edit], edit, text)
 
     def next_task(self):
         """A crate and a group of its edits that can be tried now."""
         for crate in list(self.waiting):
             if self.libraries.proved.issuperset(all_below(CRATES, crate)):
                 self.waiting.remove(crate)
-                self.groups += [(crate, group) for group in groups_of(crate, self.without_kept(crate))]
+                self.groups += [(crate, group) for group in groups_of(crate, self.edits[crate])]
         if not self.groups or self.busy and free_memory() < MEMORY:
             return None
         return self.groups.pop(0)
@@ -329,8 +321,14 @@ class Run:
                 word = "FAILED" if not is_passed else "proved" if self.is_right else "refused"
                 print(f"{word}: {edit}: {text[:240]}", flush=True)
                 self.passed += [edit] * is_passed
-        if not self.is_right:
-            self.keep(crate, told)
+            if not self.is_right:
+                self.told.setdefault(crate, []).extend(told)
+                self.put_on_record(crate)
+
+    def put_on_record(self, crate):
+        """Puts what was told of a crate on record once that is proved as it stands."""
+        if crate in self.libraries.proved and self.told.get(crate):
+            self.recorded[crate].put(self.told.pop(crate))
 
     def may_go_on(self):
         """Whether something is under way after which there may be more to do."""
@@ -361,14 +359,14 @@ class Run:
             thread.start()
         for thread in threads:
             thread.join()
+        for crate in list(self.told):
+            self.put_on_record(crate)
 
     def count(self):
         """How many edits have passed of crates that are proved as they stand."""
         for crate in self.edits:
             if crate not in self.libraries.proved:
                 print(f"rt ci doesn't prove {crate}, so its wrong bodies tell nothing", flush=True)
-        if self.kept:
-            print(f"{self.kept} were refused in earlier runs, and nothing that this stands on has changed; --anew tries all", flush=True)
         return sum(edit.crate in self.libraries.proved for edit in self.passed)
 
 
@@ -394,36 +392,64 @@ def parse_words():
     words = argparse.ArgumentParser(description=__doc__, formatter_class=argparse.RawDescriptionHelpFormatter)
     words.add_argument("--copy", type=Path, help="a copy of the repository where `rt ci` runs, whose words are the standard input")
     words.add_argument("--jobs", type=int, default=len(os.sched_getaffinity(0)), help="how many checks run at a time")
-    words.add_argument("--anew", action="store_true", help="tries those too whose refusals are kept from earlier runs")
+    words.add_argument("--all", action="store_true", help="tries those too that are on record")
+    words.add_argument("--stale", action="store_true", help="prints the crates that have some to be tried, and tries none")
     words.add_argument("--right", action="store_true", help="tries the right bodies in the places of the wrong ones")
     words.add_argument("named", nargs="*", help="a crate, or CRATE/NAME of crates/CRATE/must-fail/NAME.edit")
     return words.parse_args()
 
 
-def edits_named(named):
-    """The edits by their crate: all where no name is given."""
-    crates = [crate for crate in CRATES if not named or crate in (name.partition("/")[0] for name in named)]
-    wanted = {crate: [it for it in edits_of(crate) if not named or crate in named or str(it) in named] for crate in crates}
-    return {crate: edits for crate, edits in wanted.items() if edits}
+def edits_named(every, named):
+    """Of these edits by their crate those that are named: all where no name is given."""
+    wanted = {crate: [it for it in edits if not named or crate in named or str(it) in named] for crate, edits in every.items()}
+    return {crate: edits for crate, edits in wanted.items() if edits or not named}
+
+
+def try_stale(stale, recorded, words):
+    """The run of those that are to be tried. Without any no `rt ci` is waited for."""
+    with ci_of([crate for crate, edits in stale.items() if edits], words.copy) if any(stale.values()) else nothing() as (top, said):
+        run = Run(stale, recorded, Libraries(top, said, threading.Condition()), words.right)
+        run.go(words.jobs)
+    return run
+
+
+def nothing():
+    return contextlib.nullcontext((TOP, ()))
+
+
+def look_at_strange(recorded):
+    """How many lines on record are of no wrong body."""
+    strange = [f"{crate}/{name}" for crate, it in recorded.items() for name in it.strange]
+    for name in strange:
+        print(f"FAILED: {name}: it is on record, and there is no such wrong body", flush=True)
+    return len(strange)
 
 
 def main():
     words = parse_words()
     try:
-        edits = edits_named(words.named)
+        every = {crate: edits_of(crate) for crate in CRATES}
+        edits = edits_named(every, words.named)
+        recorded = {crate: Recorded(crate, edits[crate], every[crate], words.all or words.right) for crate in edits}
     except BadEdit as why:
         print(f"{why}\n0 passed, 1 failed")
         return 1
+    stale = {crate: it.stale for crate, it in recorded.items()}
+    if words.stale:
+        print(*(crate for crate, them in stale.items() if them))
+        return 0
     with open(TOP / "crates.txt") as held:
         wait_for_other_runs("wrong_bodies", held)
-        refusals = Refusals(words.anew)
-        with ci_of(edits, words.copy) as (top, said):
-            run = Run(edits, Libraries(top, said, threading.Condition()), refusals, words.right)
-            run.go(words.jobs)
-    refusals.remove_unused()
-    passed = run.count()
-    failed = sum(map(len, edits.values())) - passed
-    print(f"{passed} passed, {failed} failed")
+        run = try_stale(stale, recorded, words)
+        failed = look_at_strange(recorded)
+        for crate, it in recorded.items():
+            it.records.keep_only(every[crate])
+    on_record = sum(it.count for it in recorded.values())
+    now = run.count()
+    failed += sum(map(len, stale.values())) - now
+    if not words.right:
+        print(f"{on_record} are on record as refused; refused now: {now}")
+    print(f"{on_record + now} passed, {failed} failed")
     return 1 if failed else 0
 
 

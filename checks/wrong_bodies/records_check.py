@@ -1,6 +1,6 @@
 #!/usr/bin/env -S python3 -B
-"""checks/wrong_bodies/kept_check.py: looks which refusals check.py keeps, and when it tries a wrong body again; and by which lemmas a wrong
-definition is refused. It runs over two small crates and a kit that are made for that: what stands for the prover refuses the functions that
+"""checks/wrong_bodies/records_check.py: looks which refusals check.py puts on record, when it tries a wrong body again, and that it finds
+lines that don't fit; and by which lemmas a wrong definition is refused. It runs over two small crates and a kit that are made for that: what stands for the prover refuses the functions that
 a file names, and writes down which it was asked for. The last line is 'N passed, M failed'."""
 
 import os
@@ -23,11 +23,13 @@ pub fn twice(number: u32) -> u32
     number + number
 }
 """
-HIGH = """use low::twice;
+HIGH = """ghost use Rattle.high.specs.Names.{wanted};
+
+use low::twice;
 
 /// Four times a number.
 pub fn four_times(number: u32) -> u32
-    ensures { result ≡ 4 * number }
+    ensures { result ≡ wanted (4 * number) }
 {
     twice(twice(number))
 }
@@ -38,6 +40,14 @@ pub fn same(number: u32) -> u32
 {
     number
 }
+"""
+NAMES = """use Rattle.low.specs.Zero.{zero}
+
+abbrev pub wanted : ℕ → ℕ
+wanted n = n + zero
+
+abbrev pub other : ℕ
+other = 1
 """
 EDIT = "refused: {}\nfile: {}\nold: {}\nnew: {}\n"
 # A definition, and what is said of lemmas over it, of which the proof of `same` uses one, where it is wrong.
@@ -76,11 +86,12 @@ def write(file, text, mode=0o644):
 
 
 class World:
-    """A repository of two crates, with the code of the tries, a kit, and a folder for what is kept."""
+    """A repository of two crates, with the code of the tries, and a kit."""
 
     def __init__(self, top):
-        self.top, self.kit, self.caches = top / "tree", top / "kit", top / "caches"
+        self.top, self.kit = top / "tree", top / "kit"
         self.high = self.top / "crates" / "high"
+        self.record = self.high / "must-fail" / "refused.txt"
         shutil.copytree(TOP / "checks" / "wrong_bodies", self.top / "checks" / "wrong_bodies")
         shutil.copytree(TOP / "tools", self.top / "tools", symlinks=True)
         write(self.top / "crates.txt", "low:\nhigh: low\n")
@@ -88,8 +99,12 @@ class World:
         write(self.high / "src" / "lib.rt", HIGH)
         write(self.high / "must-fail" / "adds.edit", EDIT.format("four_times", "src/lib.rt", "twice(twice(number))", "twice(number)"))
         write(self.high / "must-fail" / "is_one_more.edit", EDIT.format("same", "src/lib.rt", "    number", "    number + 1"))
-        write(self.kit / "rlibs" / "std.rlib" / "format", "sum 1\n")
-        write(self.kit / "version", "1\n")
+        write(self.top / "crates" / "low" / "specs" / "Zero.antt", "abbrev pub zero : ℕ\nzero = 0\n")
+        write(self.high / "specs" / "Names.antt", NAMES)
+        write(self.high / "proofs" / "Lemmas.antt", "lemma = 1\n")
+        for function in BOTH:
+            write(self.high / "proofs" / function / "Answers.antt", "returns = refl\n")
+        write(self.kit / "version", "kit logic 1\n")
         write(self.kit / "bin" / "rattle", PROVER.format(kit=self.kit), 0o755)
         write(self.kit / "path" / "rt", RT.format(kit=self.kit), 0o755)
         self.refuse("four_times")
@@ -104,14 +119,11 @@ class World:
     def run(self, *words, proved=("low", "high")):
         """The functions that the prover is asked for, and the last line."""
         (self.kit / "asked").unlink(missing_ok=True)
-        environment = {**os.environ, "PATH": f"{self.kit}/path:{os.environ['PATH']}", "XDG_CACHE_HOME": str(self.caches)}
+        environment = {**os.environ, "PATH": f"{self.kit}/path:{os.environ['PATH']}"}
         tried = subprocess.run([self.top / "checks" / "wrong_bodies" / "check.py", "--copy", self.top, "--jobs", "1", *words],
                                input="".join(f"rt: {crate} proved\n" for crate in proved), env=environment, capture_output=True, text=True)
         asked = self.kit / "asked"
         return sorted(asked.read_text().split() if asked.exists() else []), (tried.stdout or tried.stderr).splitlines()[-1]
-
-    def kept(self):
-        return self.caches / "yisumbek" / "refusals"
 
 
 BOTH = ["four_times", "same"]
@@ -121,13 +133,18 @@ CHANGES = (
     ("a comment", [("crates/high/src/lib.rt", "/// A number.", "/// The same number.")], ["same"]),
     ("the body of another function", [("crates/high/src/lib.rt", "{\n    number\n}", "{\n    number + 0\n}")], ["same"]),
     ("a body of the crate below", [("crates/low/src/lib.rt", "    number + number\n", "    2 * number\n")], ["same"]),
+    ("another function's contract", [("crates/high/src/lib.rt", "result ≡ number }", "number ≡ result }")], ["same"]),
+    ("another definition", [("crates/high/specs/Names.antt", "other = 1", "other = 2")], ["same"]),
+    ("a lemma", [("crates/high/proofs/Lemmas.antt", "lemma = 1", "lemma = 2")], ["same"]),
+    ("what is written of another proof", [("crates/high/proofs/same/Answers.antt", "refl", "sym refl")], ["same"]),
     ("the function's contract", [("crates/high/src/lib.rt", "4 * number", "number * 4")], BOTH),
-    ("another function's contract", [("crates/high/src/lib.rt", "result ≡ number }", "number ≡ result }")], BOTH),
-    ("a contract of the crate below", [("crates/low/src/lib.rt", "result ≡ number + number", "result ≡ 2 * number")], BOTH),
+    ("a definition that the contract names", [("crates/high/specs/Names.antt", "wanted n = n", "wanted n = 0 + n")], BOTH),
+    ("a definition below that this names", [("crates/low/specs/Zero.antt", "zero = 0", "zero = 1")], BOTH),
+    ("a contract below that the wrong body names", [("crates/low/src/lib.rt", "result ≡ number + number", "result ≡ 2 * number")], BOTH),
+    ("what is written of its proof", [("crates/high/proofs/four_times/Answers.antt", "refl", "sym refl")], BOTH),
     ("the function's body", [("crates/high/src/lib.rt", "{\n    twice(", "{\n    let _ = number;\n    twice(")], BOTH),
     ("the wrong body", [("crates/high/must-fail/adds.edit", "new: twice(number)", "new: number")], BOTH),
-    ("what the crate stands on", [("crates.txt", "high: low", "high: low core")], BOTH),
-    ("the code of the tries", [("checks/wrong_bodies/check.py", "MOST = 60", "MOST = 61")], BOTH),
+    ("the sum of a statement on record", [("crates/high/must-fail/refused.txt", "adds ", "adds 0")], BOTH),
 )
 
 
@@ -144,39 +161,35 @@ def look_at_changes(checks, world):
             world.change(*change)
         look(checks, world, f"{name} is changed: {' and '.join(wanted)} tried", wanted, one)
         look(checks, world, f"{name} was changed: what is refused isn't tried", ["same"], one)
-    write(world.high / "specs" / "Lib.antt", "pub mod Fours\n")
-    look(checks, world, "a definition is new: both are tried", BOTH, one)
-    write(world.high / "proofs" / "four_times" / "Answers.antt", "returns = refl\n")
-    look(checks, world, "what is written of the proof is new: both are tried", BOTH, one)
-    write(world.high / "proofs" / "same" / "Answers.antt", "returns = refl\n")
-    look(checks, world, "what is written of another proof is new: what is refused isn't tried", ["same"], one)
-    for file in ("version", "rlibs/std.rlib/format"):
-        write(world.kit / file, "2\n")
-        look(checks, world, f"the kit has another {file}: both are tried", BOTH, one)
+    write(world.kit / "version", "2\n")
+    look(checks, world, "the kit has another logic: both are tried", BOTH, one)
 
 
 def look_at_words(checks, world):
-    look(checks, world, "--anew tries all", BOTH, "1 passed, 1 failed", "--anew")
-    look(checks, world, "a kept refusal doesn't count where the crate isn't proved", ["same"], "0 passed, 2 failed", proved=("low",))
-    look(checks, world, "--right takes no kept refusal", BOTH, "1 passed, 1 failed", "--right")
+    look(checks, world, "--all tries all", BOTH, "1 passed, 1 failed", "--all")
+    look(checks, world, "--stale names the crate, and tries none", [], "high", "--stale")
+    look(checks, world, "a refusal doesn't count where the crate isn't proved", BOTH, "0 passed, 2 failed", "--all", proved=("low",))
+    world.record.unlink()
+    look(checks, world, "nor without a record", BOTH, "0 passed, 2 failed", proved=("low",))
+    look(checks, world, "nor is it put on record", BOTH, "1 passed, 1 failed")
+    look(checks, world, "--right takes none from the record", BOTH, "1 passed, 1 failed", "--right")
     world.refuse()
-    look(checks, world, "--anew finds what is accepted now", BOTH, "0 passed, 2 failed", "--anew")
+    look(checks, world, "--all finds what is accepted now", BOTH, "0 passed, 2 failed", "--all")
     look(checks, world, "what is accepted is tried by each run", BOTH, "0 passed, 2 failed")
 
 
-def look_at_trust(checks, world):
+def look_at_lines(checks, world):
     world.refuse(*BOTH)
     world.change("crates/high/src/lib.rt", "{\n    number + 0\n}", "{\n    number\n}")
-    look(checks, world, "a body that is refused later is kept then", BOTH, "2 passed, 0 failed", "--anew")
-    look(checks, world, "both are kept", [], "2 passed, 0 failed")
-    for file in world.kept().iterdir():
-        file.write_text(file.read_text()[:-1])
-    look(checks, world, "half of a file counts for nothing", BOTH, "2 passed, 0 failed")
-    is_private = world.kept().stat().st_mode & 0o077 == 0
-    checks.look("the folder is the user's alone", None if is_private else oct(world.kept().stat().st_mode))
-    if os.geteuid() == 0:
-        os.chown(world.kept(), 65534, 65534)
-        look(checks, world, "nothing is taken from a folder of another user", BOTH, "2 passed, 0 failed")
+    look(checks, world, "a body that is refused later is put on record then", BOTH, "2 passed, 0 failed")
+    look(checks, world, "both are on record", [], "2 passed, 0 failed")
+    lines = world.record.read_text()
+    world.record.write_text(lines[:-3])
+    look(checks, world, "a line with a shorter sum doesn't fit", ["same"], "2 passed, 0 failed")
+    world.record.write_text(lines.replace("is_one_more", "is_one_less"))
+    look(checks, world, "a line of no wrong body has failed", ["same"], "2 passed, 1 failed")
+    look(checks, world, "and is taken away", [], "2 passed, 0 failed")
+    checks.look("the record is as before", None if world.record.read_text() == lines else world.record.read_text())
 
 
 def look_at_definitions(checks, world):
@@ -185,7 +198,7 @@ def look_at_definitions(checks, world):
     tries = (
         ("a lemma names what isn't there: that doesn't refuse a definition", "`five` is not in scope", ["same"], "0 passed, 1 failed"),
         ("a lemma doesn't hold: that refuses a definition", "expected type `5 ≡ 4`, but `4 ≡ 4`", ["same"], "1 passed, 0 failed"),
-        ("the refusal of a definition is kept", "", [], "1 passed, 0 failed"),
+        ("the refusal of a definition is on record", "", [], "1 passed, 0 failed"),
     )
     for name, said, wanted, last in tries:
         write(world.kit / "lemmas", LEMMAS.format(said))
@@ -194,12 +207,12 @@ def look_at_definitions(checks, world):
 
 def main():
     checks = Checks()
-    with tempfile.TemporaryDirectory(prefix="kept-") as held:
+    with tempfile.TemporaryDirectory(prefix="records-") as held:
         world = World(Path(held))
         look_at_changes(checks, world)
         look_at_words(checks, world)
-        look_at_trust(checks, world)
-    with tempfile.TemporaryDirectory(prefix="kept-") as held:
+        look_at_lines(checks, world)
+    with tempfile.TemporaryDirectory(prefix="records-") as held:
         look_at_definitions(checks, World(Path(held)))
     return checks.end()
 
