@@ -1,7 +1,7 @@
 /*
- * c_queue.c MIX TASKS TURNS: turns of calls of one queue through C, on the inputs of the program
- * queue_bench, and the same checksum of the answers (docs/speed.md has both). The mixes are
- * tick-pick, tick-sleep-pick-wake, and some that queue_bench hasn't. tick-run: a drawn task is
+ * c_queue.c MIX TASKS TURNS: turns of calls of one queue through C, on the inputs of
+ * `measures queue`, and the same checksum of the answers (docs/speed.md has both). The mixes are
+ * tick-pick, tick-sleep-pick-wake, and some that `measures queue` hasn't. tick-run: a drawn task is
  * made to run, as by a kernel that has chosen itself. pull-take-put: another queue, without tasks,
  * pulls the candidate, which goes back through a hand. pull-take-renumber-put: the hand is given a
  * number on its way, which is the task's own, since that is free where it goes. pick: picks, each
@@ -62,7 +62,7 @@ static void admit(uint64_t task, uint64_t tasks, bool is_fair)
 		eevdf_admit(&queue, task, nice, slice, start);
 }
 
-/* Beside each length queue_bench draws a task, and a nice level for other mixes. */
+/* Beside each length `measures queue` draws a task, and a nice level for other mixes. */
 static void draw_lengths(uint64_t tasks)
 {
 	for (size_t at = 0; at < DRAWN; at++) {

@@ -6,7 +6,7 @@
 # 3 where a tool, the package or the network isn't there. No proof speaks of any of it.
 set -eu
 cd "$(dirname "$0")/.."
-program=${PROGRAM:-$PWD/crates/queue_bench/out/queue_bench}
+program=${PROGRAM:-$PWD/crates/measures/out/measures}
 cc=${CC:-gcc}
 package=linux-source-6.12
 
@@ -22,7 +22,7 @@ if [ -z "${DEB:-}" ]; then
   command -v apt-get >/dev/null || fault "there is no apt-get to fetch Debian's package $package; DEB may name one"
 fi
 
-[ -n "${PROGRAM:-}" ] || ./build queue_bench
+[ -n "${PROGRAM:-}" ] || ./build measures
 
 work=$(mktemp -d)
 trap 'rm -rf "$work"' EXIT
@@ -53,4 +53,4 @@ flags=(-std=gnu11 -O2 -fno-strict-aliasing -fno-strict-overflow -Wall -Wextra -W
 "$cc" "${flags[@]}" -w -Ibench -c -o "$work/rbtree.o" "$work/tree/lib/rbtree.c"
 "$cc" "${flags[@]}" -Ibench -o "$work/linux_queue" bench/linux_queue.c "$work/rbtree.o"
 
-python3 bench/turn_costs.py "$program" "$work/linux_queue" -- "$@"
+python3 bench/turn_costs.py "${program@Q} queue" "$work/linux_queue" -- "$@"

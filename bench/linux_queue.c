@@ -1,7 +1,7 @@
 /*
- * linux_queue.c MIX TASKS TURNS: turns of calls of Linux's own run queue, on the inputs of the program
- * queue_bench (docs/speed.md). linux_types.h and linux_code.h are cut out of Linux's source when
- * bench/linux.sh runs. The checksum of the answers isn't queue_bench's, since the rules differ.
+ * linux_queue.c MIX TASKS TURNS: turns of calls of Linux's own run queue, on the inputs of
+ * `measures queue` (docs/speed.md). linux_types.h and linux_code.h are cut out of Linux's source when
+ * bench/linux.sh runs. The checksum of the answers isn't that one's, since the rules differ.
  */
 #include "linux_stub.h"
 #include <linux/rbtree_augmented.h>

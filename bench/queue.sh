@@ -4,5 +4,6 @@
 # speaks of any of it.
 set -eu
 cd "$(dirname "$0")/.."
-./build queue_bench
-exec python3 bench/turn_costs.py "$PWD/crates/queue_bench/out/queue_bench" -- "$@"
+./build measures
+program=$PWD/crates/measures/out/measures
+exec python3 bench/turn_costs.py "${program@Q} queue" -- "$@"

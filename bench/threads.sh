@@ -11,13 +11,13 @@
 #   operations, and a hundred million.
 # Drawing the operations is part of it everywhere. The fleet with a history also keeps two lines of each operation, in memory that it
 # touches for the first time; without a fleet no line is kept, and a wake is done as soon as it is posted. What the fleets do is not
-# compared with one thread meanwhile: `fleet_bench check` does that. Which thread runs on which processor is left to the system, which
+# compared with one thread meanwhile: `measures fleet check` does that. Which thread runs on which processor is left to the system, which
 # moves them where it has to: where other programs run the numbers are too low, and the load is printed before and after. The
 # environment may give other numbers: RUNS (10), PROGRAM (the one that ./build makes). No proof speaks of any of it.
 set -eu
 cd "$(dirname "$0")/.."
 runs=${RUNS:-10}
-program=${PROGRAM:-$PWD/crates/fleet_bench/out/fleet_bench}
+program=${PROGRAM:-$PWD/crates/measures/out/measures}
 few=20000
 cpus_a_thread=2
 tasks_a_cpu=64
@@ -26,7 +26,7 @@ mixes=("$@")
 [ $# -gt 0 ] || mixes=(own wakes pulls comes)
 
 type -P time >/dev/null || { echo "threads.sh: there is no program time (Debian package time)" >&2; exit 3; }
-[ -n "${PROGRAM:-}" ] || ./build fleet_bench
+[ -n "${PROGRAM:-}" ] || ./build measures
 
 held=$(mktemp)
 trap 'rm -f "$held"' EXIT
@@ -38,7 +38,7 @@ many() {
 
 # The words of a run of seed 42: its way, threads, mix and operations a thread.
 words() {
-  echo "$1 $2 $cpus_a_thread $(($2 * cpus_a_thread * tasks_a_cpu)) $3 $4 42"
+  echo "fleet $1 $2 $cpus_a_thread $(($2 * cpus_a_thread * tasks_a_cpu)) $3 $4 42"
 }
 
 # Runs the program once, or as often as there are threads at the same time.

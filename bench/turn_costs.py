@@ -1,6 +1,7 @@
 #!/usr/bin/env python3
-"""turn_costs.py PROGRAM.. [-- MIX..]: what a turn of calls of one run queue costs. Each PROGRAM takes the words MIX, TASKS and TURNS, as
-queue_bench does. Prints the machine, and three tables with a row for each mix and program and a column for each number of tasks:
+"""turn_costs.py PROGRAM.. [-- MIX..]: what a turn of calls of one run queue costs. Each PROGRAM, a path or that with words behind it as a
+shell splits them, takes the words MIX, TASKS and TURNS, as `measures queue` does. Prints the machine, and three tables with a row for each
+mix and program and a column for each number of tasks:
 - nanoseconds of processor time a turn, from the least of PASSES passes (12) of a run with many turns and of one with few. Each pass runs
   every program, mix and number of tasks once, so that a change of the machine's speed meets them all;
 - instructions a turn, and
@@ -9,6 +10,7 @@ Each is what the run with many turns takes less what the run with few takes, ove
 drops out. Ends with 3 where there is no valgrind."""
 
 import os
+import shlex
 import shutil
 import subprocess
 import sys
@@ -20,6 +22,17 @@ SIZES = (1, 8, 64, 1024)
 PASSES = int(os.environ.get("PASSES", "12"))
 TIMED = (20_000, 320_000)
 COUNTED = (2_000, 6_000)
+
+
+def name_of(program):
+    """What the tables call a program: its last word, without the folders of a path."""
+    return Path(shlex.split(program)[-1]).name
+
+
+def command_of(cell, turns):
+    """The command of a program, a mix and a number of tasks, for so many turns."""
+    program, mix, size = cell
+    return [*shlex.split(program), mix, size, str(turns)]
 
 
 def machine():
@@ -46,7 +59,7 @@ def least_times(cells):
     for _ in range(PASSES):
         for cell in cells:
             for turns in TIMED:
-                took = processor_time([*cell, str(turns)])
+                took = processor_time(command_of(cell, turns))
                 least[cell, turns] = min(took, least.get((cell, turns), took))
     few, many = TIMED
     return {cell: (least[cell, many] - least[cell, few]) / (many - few) for cell in cells}
@@ -68,7 +81,7 @@ def counts(cells):
     instructions, branches = {}, {}
     with tempfile.TemporaryDirectory() as held:
         for cell in cells:
-            less, more = (events([*cell, str(turns)], f"{held}/profile") for turns in COUNTED)
+            less, more = (events(command_of(cell, turns), f"{held}/profile") for turns in COUNTED)
             turns = COUNTED[1] - COUNTED[0]
             instructions[cell] = int((more[0] - less[0]) / turns)
             branches[cell] = int((more[1] - less[1]) * 100 / turns)
@@ -81,7 +94,7 @@ def print_table(title, programs, mixes, value_of):
     print("|" + "-" * 36 + "|" + "-------:|" * len(SIZES))
     for mix in mixes:
         for program in programs:
-            row = mix if len(programs) == 1 else f"{mix}, {Path(program).name}"
+            row = mix if len(programs) == 1 else f"{mix}, {name_of(program)}"
             print(f"| {row:34} | " + " | ".join(f"{round(value_of[program, mix, str(size)]):6}" for size in SIZES) + " |")
 
 

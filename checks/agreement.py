@@ -7,7 +7,7 @@ has to stand in one place. The last line is 'N passed, M failed'."""
 import sys
 from itertools import product
 
-from runner import Checks, Printed, built
+from runner import Checks, Printed, built, status_of
 
 # What the program says, by the way in which it does the operations.
 WANTED = {
@@ -22,13 +22,13 @@ MIXES = ("all", "comes")
 
 def main():
     seeds = int(sys.argv[1]) if sys.argv[1:] else 10
-    programs, checks = built("fleet_bench"), Checks()
+    programs, checks = built("measures"), Checks()
     for seed in range(1, seeds + 1):
         for (way, wanted), mix in product(WANTED.items(), MIXES):
-            printed = programs.run("fleet_bench", [way, "4", "2", "64", mix, "2000", str(seed)])
+            printed = programs.run("measures", ["fleet", way, "4", "2", "64", mix, "2000", str(seed)])
             checks.expect(f"{way}, {mix}, seed {seed}", printed, printed == Printed(wanted))
     return checks.end()
 
 
 if __name__ == "__main__":
-    sys.exit(main())
+    sys.exit(status_of(main))

@@ -1,10 +1,10 @@
 #!/usr/bin/env -S python3 -B
 """checks/memory.py: counts how often the programs ask for memory, and which of the blocks they keep when they end.
-- fleet_bench opens a fleet of two CPUs with 1 to 8 tasks, does nothing and closes it. A task has one node, and no machine stands beside
-  the queues; so each task more may ask once more.
+- `measures fleet` opens a fleet of two CPUs with 1 to 8 tasks, does nothing and closes it. A task has one node, and no machine stands
+  beside the queues; so each task more may ask once more.
 - It opens a fleet that keeps no history, does few or many operations of all kinds and closes it. An operation asks for nothing.
-- dropped_queue drops a queue in which so many tasks are runnable and so many sleep: none, one, several, or all that it has room for. No
-  block is kept.
+- `measures dropped-queue` drops a queue in which so many tasks are runnable and so many sleep: none, one, several, or all that it has room
+  for. No block is kept.
 - eevdf ends with such queues, and with those of an example, by each of its commands. No block is kept.
 No proof speaks of it. The last line is 'N passed, M failed'."""
 
@@ -13,7 +13,7 @@ import tempfile
 from itertools import product
 
 from blocks import Allocator
-from runner import TOP, Checks, built
+from runner import TOP, Checks, built, status_of
 
 # How many tasks one queue has room for.
 ALL = 1024
@@ -28,8 +28,8 @@ EXAMPLE = "examples/interleaving.toml"
 # How often the programs ask.
 
 def look_at_requests(checks, allocator, what, runs, most):
-    """Looks whether each run of fleet_bench asks for memory at most so many times more than the one before it."""
-    told = [allocator.blocks("fleet_bench", words) for words in runs]
+    """Looks whether each run of `measures` asks for memory at most so many times more than the one before it."""
+    told = [allocator.blocks("measures", words) for words in runs]
     counts = [blocks and blocks.asked for blocks in told]
     said = ", ".join(map(str, counts))
     is_right = all(counts) and all(after - before <= most for before, after in zip(counts, counts[1:]))
@@ -37,8 +37,8 @@ def look_at_requests(checks, allocator, what, runs, most):
 
 
 def fleet_words(way, tasks, mix, operations):
-    """The words of a run of fleet_bench by one thread, on two CPUs."""
-    return [way, "1", "2", str(tasks), mix, str(operations), "42"]
+    """The words of a run of a fleet by one thread, on two CPUs."""
+    return ["fleet", way, "1", "2", str(tasks), mix, str(operations), "42"]
 
 
 def look_at_fleets(checks, allocator):
@@ -59,9 +59,9 @@ def look_at_kept(checks, by, blocks, least):
 def look_at_drops(checks, allocator):
     """Looks whether all is given back where a queue is dropped."""
     for runnable, asleep in DROPPED:
-        words = [str(runnable), str(asleep)]
-        blocks = allocator.blocks("dropped_queue", words)
-        name = " ".join(["dropped_queue", *words])
+        words = ["dropped-queue", str(runnable), str(asleep)]
+        blocks = allocator.blocks("measures", words)
+        name = " ".join(words)
         wanted = b"%d runnable, %d asleep\n" % (runnable, asleep)
         checks.look(f"tasks of {name}", None if blocks and blocks.out == wanted else f"{blocks and blocks.out!r}")
         look_at_kept(checks, name, blocks, runnable + asleep)
@@ -93,7 +93,7 @@ def look_at_ends(checks, allocator):
 
 
 def main():
-    programs, checks = built("fleet_bench", "dropped_queue", "eevdf"), Checks()
+    programs, checks = built("measures", "eevdf"), Checks()
     with tempfile.TemporaryDirectory(prefix="memory-") as folder:
         try:
             allocator = Allocator(folder, programs)
@@ -106,4 +106,4 @@ def main():
 
 
 if __name__ == "__main__":
-    sys.exit(main())
+    sys.exit(status_of(main))

@@ -13,14 +13,15 @@ def check_one(tools, name, label, *flags):
 
 
 def check_checksum(tools):
-    """The C program that bench/count counts takes the turns of queue_bench, and has to come to the checksum that this one is stored with."""
-    bench = TOP / "crates" / "queue_bench"
+    """The C program that bench/count counts takes the turns of `measures queue`, and has to come to the checksum that this is stored with."""
+    runs = TOP / "checks" / "measures" / "runs"
+    _, *words = (runs / "queue.words").read_text().split()
     program, fault = tools.compile("c_queue", [TOP / "bench" / "c_queue.c", tools.malloc_library()])
-    made = None if fault else run([program, *(bench / "args").read_text().split()])
-    wanted = (bench / "stdout").read_text()
+    made = None if fault else run([program, *words])
+    wanted = (runs / "queue.out").read_text()
     fault = fault or fault_of(made)
-    other = made and made.stdout != wanted and f"{made.stdout.strip()}, where queue_bench has {wanted.strip()}"
-    tools.checks.look("bench/c_queue.c has the checksum of queue_bench", fault or other)
+    other = made and made.stdout != wanted and f"{made.stdout.strip()}, where `measures queue` has {wanted.strip()}"
+    tools.checks.look("bench/c_queue.c has the checksum of `measures queue`", fault or other)
     if fault is None:
         alone, beside = (run([program, mix, "64", "2000"]).stdout for mix in ("tick-pick", "fair-tick-pick"))
         tools.checks.look("bench/c_queue.c has one checksum with bounds and without", None if alone == beside else f"{alone} and {beside}")

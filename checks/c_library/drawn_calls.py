@@ -1,5 +1,4 @@
-"""Draws sequences of calls, and compares what the library answers with what the plain model does, and with what the same calls answer in
-Rattle."""
+"""Draws sequences of calls, and compares what the library answers with what the plain model does."""
 
 import random
 from dataclasses import dataclass
@@ -148,11 +147,10 @@ class Sequence:
 
 @dataclass(frozen=True)
 class Compared:
-    """What came of a comparison: the first differences from the model and from the program in Rattle, or None; how many calls were
-    compared; and which calls had which answers below 0."""
+    """What came of a comparison: the first difference from the model, or None; how many calls were compared; and which calls had which
+    answers below 0."""
 
     fault: str | None
-    fault_in_rattle: str | None
     count: int
     errors: frozenset
 
@@ -164,33 +162,22 @@ def errors_of(sequence):
     return frozenset((name, answer) for name, answer in first if answer < 0)
 
 
-def first_difference(lines, all_wanted, played, other):
-    """The first line that a program answers otherwise than is wanted, which the other says, or None."""
+def first_difference(lines, all_wanted, played):
+    """The first line that a program answers otherwise than the model, or None."""
     said = played.stdout.splitlines()
     for at, (line, wanted) in enumerate(zip(lines, all_wanted, strict=True)):
         answered = said[at] if at < len(said) else "nothing"
         if answered != wanted:
-            return f"line {at + 1}, {line}, is answered {answered}, where {other} says {wanted} {ending(played.stderr)}"
+            return f"line {at + 1}, {line}, is answered {answered}, where the model says {wanted} {ending(played.stderr)}"
     return f"status {played.returncode}: {ending(played.stderr)}" if played.returncode else None
 
 
-def difference_in_rattle(in_rattle, lines, played):
-    """The first line that the program in Rattle answers otherwise than the library, or None. What both print has to be the same bytes."""
-    text = "\n".join(lines) + "\n"
-    made = run([in_rattle], input=text)
-    if made.stdout == played.stdout and not made.returncode:
-        return None
-    said = [*played.stdout.splitlines(), *["nothing"] * len(lines)][: len(lines)]
-    return first_difference(lines, said, made, "the library") or "what is printed has other ends of lines"
-
-
 def compare(job):
-    """Plays a drawn sequence by a program over the library, by the model, and by a program in Rattle where there is one."""
-    program, in_rattle, kind, seed, calls = job
+    """Plays a drawn sequence by a program over the library, and by the model."""
+    program, kind, seed, calls = job
     sequence = Sequence(kind, seed)
     sequence.run(calls)
     played = run([program], input="\n".join(sequence.lines) + "\n")
-    fault = first_difference(sequence.lines, sequence.wanted, played, "the model")
-    other = difference_in_rattle(in_rattle, sequence.lines, played) if in_rattle else None
+    fault = first_difference(sequence.lines, sequence.wanted, played)
     count = sum(not line.startswith("state") for line in sequence.lines)
-    return Compared(fault, other, count, errors_of(sequence))
+    return Compared(fault, count, errors_of(sequence))

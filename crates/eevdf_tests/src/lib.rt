@@ -1,6 +1,6 @@
 //! Tests of whole machines, by their calls: every order of the steps of small workloads, the calls of a fleet, with a history and
 //! without, and programs that threads run while a gate holds them. What the whole output of the built programs shows is tested in
-//! `checks/cases/`, and drawn operations of a fleet by several threads are compared with those of one by `fleet_bench`.
+//! `checks/cases/`, and drawn operations of a fleet by several threads are compared with those of one by `measures fleet`.
 #![tactic(auto)]
 
 #[cfg(test)]

@@ -1,4 +1,0 @@
-use Rattle.fleet_bench.proofs.endless_run.endless_report.Given as goal
-
-abbrev pub ghosts-worked_out : goal.ghosts-worked_out
-ghosts-worked_out g a = record { kit = a.kit }

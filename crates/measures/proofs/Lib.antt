@@ -1,0 +1,3 @@
+mod ApartQueues
+pub mod BesideSeats
+mod SameLines

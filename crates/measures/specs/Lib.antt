@@ -1,0 +1,2 @@
+pub mod BesideSeats
+pub mod SharedTasks

@@ -1,7 +1,0 @@
-use Rattle.std.proofs.Common.{◌≡◌, ℕ, ◌<◌, false}
-use Rattle.std.specs.Prelude.{◌&&◌}
-use Rattle.queue_bench.specs.SharedTasks.{stands_in}
-use Rattle.queue_bench.proofs.pull_queues.share_no_task.Given as goal
-
-abbrev pub invariant-loop-number : goal.invariant-loop-number
-invariant-loop-number l = (t : ℕ) → t < l.number → (stands_in l.first.state t && stands_in l.second.state t) ≡ false
