@@ -27,12 +27,16 @@ ENVIRONMENT = {
 # What a function's name has besides: for which types it was compiled, a version of the C library, and how deep it calls itself.
 PART_OF_NAME = re.compile(r"::<#[0-9a-f]+>|@+GLIBC_[\d.]+|'\d+$")
 
-# A run that takes so many seconds is ended.
-PATIENCE = 600
+# A run that takes so many seconds is ended, and isn't counted: the longest takes half a minute alone.
+PATIENCE = 3600
 
 
 class Uncounted(Exception):
     """Why a run has no count."""
+
+
+class Unended(Uncounted):
+    """A run was ended for its time."""
 
 
 @dataclass(frozen=True)
@@ -50,7 +54,7 @@ class Run:
             done = subprocess.run([*before, f"./{self.program.name}", *self.words], cwd=self.program.parent, env=ENVIRONMENT,
                                   input=self.data, capture_output=True, timeout=PATIENCE)
         except subprocess.TimeoutExpired:
-            raise Uncounted(f"{name} doesn't end within {PATIENCE} seconds") from None
+            raise Unended(f"the machine is too slow, or too busy: {name} has no end after {PATIENCE} seconds") from None
         if done.returncode:
             said = (done.stderr or done.stdout).decode(errors="replace").strip()
             raise Uncounted(f"{name} ends with {done.returncode}: {said[-1000:]}")

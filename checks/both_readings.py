@@ -20,7 +20,7 @@ sys.path += [str(CHECKS / "cases"), str(CHECKS / "drawn")]
 
 from check import command_of  # noqa: E402
 from draw.cases import draw  # noqa: E402
-from runner import TOP, Checks, built  # noqa: E402
+from runner import TOP, Checks, built, status_of  # noqa: E402
 
 # How many drawn documents there are, and how many bytes make one too large to be sent so often.
 DRAWN = 200
@@ -123,4 +123,4 @@ def main():
 
 
 if __name__ == "__main__":
-    sys.exit(main())
+    sys.exit(status_of(main))

@@ -12,7 +12,7 @@ from contextlib import contextmanager
 from dataclasses import dataclass
 from pathlib import Path
 
-from runner import TOP, Checks, built, run, stored
+from runner import TOP, Checks, built, run, stored, status_of
 
 WORKLOAD = TOP / "examples" / "two-tasks.toml"
 REPORT = stored(WORKLOAD.with_suffix(".out")).out
@@ -129,4 +129,4 @@ def main():
 
 
 if __name__ == "__main__":
-    sys.exit(main())
+    sys.exit(status_of(main))

@@ -9,7 +9,7 @@ import re
 import sys
 from resource import RLIMIT_AS, RLIMIT_STACK
 
-from runner import TOP, Checks, Printed, built
+from runner import TOP, Checks, Printed, built, status_of
 
 CPUS = 64
 WORKLOAD = b"version = 2\nprogram = [" + b'["pick"], ' * CPUS + b"]\n[[task]]\n"
@@ -19,8 +19,6 @@ LIMITS = {RLIMIT_STACK: 8 << 20, RLIMIT_AS: 256 << 20}
 # The stack of a thread of `eevdf_uses`, and how many have room beside the program where its turns are refused. What it prints ends then
 # with the line that begins what it does by them.
 USES_STACK = 256 << 20
-# It takes two seconds alone. Its threads wait for each other, and in the gate for what runs beside them.
-USES_SECONDS = 180
 USES = {"turns with a history": (1, b"two threads\n"), "turns without a history": (2, b"idle pulls\n")}
 
 
@@ -29,12 +27,14 @@ def look_at_uses(checks, programs):
     wanted = (TOP / "crates" / "eevdf_uses" / "stdout").read_bytes()
     for name, (threads, last) in USES.items():
         limits = {RLIMIT_STACK: USES_STACK, RLIMIT_AS: threads * USES_STACK + USES_STACK // 2}
-        printed = programs.run("eevdf_uses", [], limits=limits, seconds=USES_SECONDS)
         before = wanted.partition(last)[0] + last
-        is_told = printed.status == 1 and printed.out == before and b"WouldBlock" in printed.errors
-        checks.expect(f"a refused thread of {name}", printed, is_told)
-    whole = programs.run("eevdf_uses", [], seconds=USES_SECONDS)
-    checks.expect("turns whose threads have room", whole, (whole.out, whole.status) == (wanted, 0))
+        with checks.unless_slow(f"a refused thread of {name}"):
+            printed = programs.run("eevdf_uses", [], limits=limits)
+            is_told = printed.status == 1 and printed.out == before and b"WouldBlock" in printed.errors
+            checks.expect(f"a refused thread of {name}", printed, is_told)
+    with checks.unless_slow("turns whose threads have room"):
+        whole = programs.run("eevdf_uses", [])
+        checks.expect("turns whose threads have room", whole, (whole.out, whole.status) == (wanted, 0))
 
 
 def main():
@@ -53,4 +53,4 @@ def main():
 
 
 if __name__ == "__main__":
-    sys.exit(main())
+    sys.exit(status_of(main))

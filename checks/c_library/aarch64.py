@@ -93,7 +93,7 @@ def jobs_of(tools, archive, seed):
                 tools.checks.look(f"callers/play.c {label} on aarch64, {way}", fault)
                 continue
             for kind in KINDS:
-                yield f"drawn calls of {kind.name} {label} on aarch64, {way}", (program, None, kind, seed, CALLS)
+                yield f"drawn calls of {kind.name} {label} on aarch64, {way}", (program, kind, seed, CALLS)
 
 
 def check(tools, archive, seed):

@@ -23,7 +23,7 @@ import rust
 import sched_ext
 import sequences
 import simulated
-from tools import TOP, Tools, fault_of, run
+from tools import TOP, Tools, fault_of, run, runner
 
 C_ARCHIVES = TOP / "tools" / "c_archives"
 sys.path.append(str(C_ARCHIVES))
@@ -60,6 +60,12 @@ def check_aarch64(folder, work, seed):
     return tools.checks.end()
 
 
+def look(tools, part, *seed):
+    """Looks at a part, as far as no run of it is too slow."""
+    with tools.checks.unless_slow(f"what comes after in {part.__name__}.py"):
+        part.check(tools, *seed)
+
+
 def main():
     words = argparse.ArgumentParser()
     what = words.add_mutually_exclusive_group(required=True)
@@ -77,17 +83,16 @@ def main():
         print(f"checks/c_library: there is no archive to look at: {failed}", file=sys.stderr)
         sys.exit(3)
     for part in (header, kernel_object if asked.module else object_file, callers, examples, installed, memory_names, rust, kernel):
-        part.check(tools)
-    sequences.check(tools, asked.seed)
-    loops.check(tools, asked.seed)
+        look(tools, part)
+    look(tools, sequences, asked.seed)
+    look(tools, loops, asked.seed)
     if asked.module:
-        linked.check(tools)
-        interrupted.check(tools, asked.seed)
-        linux.check(tools)
-        simulated.check(tools)
-        sched_ext.check(tools)
+        look(tools, linked)
+        look(tools, interrupted, asked.seed)
+        for part in (linux, simulated, sched_ext):
+            look(tools, part)
     sys.exit(tools.checks.end())
 
 
 if __name__ == "__main__":
-    main()
+    sys.exit(runner.status_of(main))

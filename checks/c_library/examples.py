@@ -1,5 +1,6 @@
 """The examples in C."""
 
+import os
 import re
 import resource
 
@@ -43,6 +44,8 @@ OFF = 0.15
 # has to wait is charged for it, and may have no time left to give it back. Such a run is done again, at most so often.
 UNDISTURBED = 1.9
 RUNS = 10
+# A run of an example in another form is done so often until a thread comes between.
+RUNS_OF_A_FORM = 100
 SHARE = re.compile(r"^fiber \d+: ([\d.]+) % of the time, ([\d.]+) % of the weight$", re.MULTILINE)
 
 
@@ -137,7 +140,8 @@ def check_cpus(tools, example):
 
 
 def check_other_forms(tools):
-    """The example on four CPUs finds the mistake where one of its rules isn't kept: in one run of some, as threads go."""
+    """The example on four CPUs finds the mistake where one of its rules isn't kept: in one run of some, as threads go. On one processor
+    they may go so that it never comes to that."""
     text = FOUR_CPUS.read_text()
     for name, (kept, other, said) in OTHER_FORMS.items():
         if text.count(kept) != 1:
@@ -145,8 +149,12 @@ def check_other_forms(tools):
         source = tools.work / "other_form.c"
         source.write_text(text.replace(kept, other))
         program, fault = tools.compile("other_form", [source, BINDING], "-pthread")
-        is_found = not fault and any(said in run([program]).stdout for _ in range(RUNS))
-        tools.checks.look(f"examples/c/{FOUR_CPUS.name} finds that {name}", fault or (None if is_found else f"in {RUNS} runs it doesn't"))
+        is_found = not fault and any(said in run([program]).stdout for _ in range(RUNS_OF_A_FORM))
+        what, why = f"examples/c/{FOUR_CPUS.name} finds that {name}", f"in {RUNS_OF_A_FORM} runs it doesn't"
+        if not is_found and not fault and len(os.sched_getaffinity(0)) == 1:
+            tools.checks.leave_out(what, f"{why}, on one processor")
+        else:
+            tools.checks.look(what, fault or (None if is_found else why))
 
 
 def block(page, beginning):

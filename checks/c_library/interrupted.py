@@ -112,5 +112,5 @@ def check(tools, seed):
         if fault:
             tools.checks.look(name, fault)
             continue
-        compared = compare((program, None, replace(kind, looks=LOOKS), seed, CALLS))
+        compared = compare((program, replace(kind, looks=LOOKS), seed, CALLS))
         tools.checks.look(name, compared.fault, f"{compared.count} calls are answered as by the model")

@@ -7,13 +7,13 @@ import os
 import shutil
 from dataclasses import dataclass
 
-from tools import SECONDS, TOP, fault_of, run
+from tools import TOP, fault_of, run, runner
 
 FOLDER = TOP / "examples" / "linux"
 IS_MISSING = 3
 IS_LATE = 124
 # A small Linux takes minutes to build, and on a busy machine many.
-BUILD_SECONDS = 3600
+BUILD_SECONDS = 4 * 3600
 PACKAGES = {"qemu-system-x86_64": "qemu-system-x86", "gcc-12": "gcc", "xz": "xz-utils"}
 LINUX_TOOLS = ("gcc", "make", "flex", "bison", "bc", "xz", "qemu-system-x86_64")
 
@@ -30,7 +30,8 @@ class Way:
 
 
 def ways():
-    yield Way("examples/linux, as a module", ("run.sh", os.environ.get("LINUX", "/")), ("qemu-system-x86_64", "make", "gcc-12"), SECONDS,
+    yield Way("examples/linux, as a module", ("run.sh", os.environ.get("LINUX", "/")), ("qemu-system-x86_64", "make", "gcc-12"),
+              runner.PATIENCE,
               "there is no Linux with its headers; by hand: examples/linux/fetch.sh FOLDER, and LINUX=FOLDER")
     yield Way("examples/linux, in vmlinux", ("vmlinux.sh",), LINUX_TOOLS, BUILD_SECONDS,
               "there is no source of Linux in /usr/src, or no gelf.h (Debian packages linux-source-6.1, libelf-dev)")
@@ -46,7 +47,7 @@ def check_way(tools, way):
     if made.returncode == IS_MISSING:
         tools.checks.leave_out(way.name, way.missing)
     elif made.returncode == IS_LATE:
-        tools.checks.leave_out(way.name, "the machine is too slow, or too busy: qemu hasn't come to its end in 200 seconds")
+        tools.checks.leave_out(way.name, "the machine is too slow, or too busy: qemu hasn't come to its end in 1200 seconds")
     else:
         tools.checks.look(way.name, fault_of(made), "; ".join(made.stdout.splitlines()))
 

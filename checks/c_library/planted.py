@@ -171,7 +171,7 @@ def finders(tools, planted, *linked):
         if name != "play":
             if run([program]).returncode:
                 yield f"{name}.c"
-        elif any(compare((program, None, kind, "planted", CALLS)).fault for kind in KINDS):
+        elif any(compare((program, kind, "planted", CALLS)).fault for kind in KINDS):
             yield "drawn calls"
 
 

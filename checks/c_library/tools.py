@@ -14,11 +14,8 @@ import runner  # noqa: E402
 WARNINGS = ("-Wall", "-Wextra", "-Werror", "-pedantic")
 C11 = ("-std=c11", "-O2", *WARNINGS, f"-I{TOP / 'include'}")
 SANITIZED = ("-g", "-fsanitize=address,undefined", "-fno-sanitize-recover=all")
-# No run takes so long, also on a busy machine.
-SECONDS = 300
 
-
-def run(words, input="", seconds=SECONDS, **more):
+def run(words, input="", seconds=runner.PATIENCE, **more):
     """A run of a program or a tool, with what it prints as text."""
     printed = runner.run(list(map(str, words)), input.encode(), seconds, **more)
     return CompletedProcess(words, printed.status, *(text.decode(errors="replace") for text in (printed.out, printed.errors)))

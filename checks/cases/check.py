@@ -14,7 +14,7 @@ CASES = Path(__file__).resolve().parent
 sys.path += [str(CASES.parent), str(CASES.parent / "drawn")]
 
 from plain.workbench import COMMANDS, answer  # noqa: E402
-from runner import TOP, Checks, Printed, built, stored  # noqa: E402
+from runner import TOP, Checks, Printed, built, stored, status_of  # noqa: E402
 
 SOLO = ("eevdf", "solo")
 REPLAY = ("eevdf", "replay")
@@ -309,4 +309,4 @@ def main():
 
 
 if __name__ == "__main__":
-    sys.exit(main())
+    sys.exit(status_of(main))

@@ -17,7 +17,7 @@ sys.path.append(str(Path(__file__).resolve().parents[1]))
 from differences import OTHER_WORDS, check, check_words  # noqa: E402
 from draw.cases import NAMES, Case, draw  # noqa: E402
 from plain.limits import OF_VERSION_FOUR, OF_VERSION_THREE  # noqa: E402
-from runner import Checks, Printed, built  # noqa: E402
+from runner import Checks, Printed, built, status_of  # noqa: E402
 
 # Who draws for so long comes to each kind of workload, and goes on until each deed of versions 3 and 4 was done so many times.
 SECONDS_FOR_EACH_KIND = 30
@@ -108,7 +108,8 @@ def compare_share(seed, folder, programs, end, least, numbers):
     for number in numbers:
         if time.monotonic() >= end and comparison.has_done(least):
             return comparison
-        compare_one(comparison, programs, number)
+        with comparison.unless_slow(f"drawn workload {number}"):
+            compare_one(comparison, programs, number)
 
 
 def compare_drawn(comparison, programs, words):
@@ -140,4 +141,4 @@ def main():
 
 
 if __name__ == "__main__":
-    sys.exit(main())
+    sys.exit(status_of(main))

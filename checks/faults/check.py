@@ -14,7 +14,7 @@ sys.path.append(str(Path(__file__).resolve().parents[1]))
 from documents import DOCUMENTS, NO_SCRIPT  # noqa: E402
 from marked import said_of  # noqa: E402
 from refused import NOT_ORDERED, OF_SCRIPTS, UNDONE, with_parts  # noqa: E402
-from runner import TOP, Checks, Printed, built, run  # noqa: E402
+from runner import TOP, Checks, Printed, built, run, status_of  # noqa: E402
 from unread import OF_MISSING, PLAIN, UNREAD  # noqa: E402
 from words import TEXT, WORDS  # noqa: E402
 
@@ -192,4 +192,4 @@ def main():
     return checks.end()
 
 
-sys.exit(main())
+sys.exit(status_of(main))

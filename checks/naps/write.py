@@ -17,7 +17,7 @@ sys.path.append(str(TOP / "checks"))
 from cases import SHARES, WAITS  # noqa: E402
 from played import Figures, Player, figures_of, workload  # noqa: E402
 from plain.workbench import answer  # noqa: E402
-from runner import Checks, Printed, built  # noqa: E402
+from runner import Checks, Printed, built, status_of  # noqa: E402
 
 PAGE = TOP / "docs" / "model.md"
 # A table stands below a line with its name.
@@ -138,4 +138,4 @@ def main():
 
 
 if __name__ == "__main__":
-    sys.exit(main())
+    sys.exit(status_of(main))

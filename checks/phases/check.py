@@ -20,15 +20,16 @@ from figures import figure_lines  # noqa: E402
 from hostile import HOSTILE, MANY_DEEDS, MANY_TASKS, ROWS_OF_MANY, ROWS_OF_MANY_TASKS  # noqa: E402
 from model import Machine  # noqa: E402
 from moments import fall_of, moment_of, reported_by_cpu, timed_by_cpu  # noqa: E402
-from runner import TOP, Checks, Printed, built  # noqa: E402
+from runner import TOP, Checks, Printed, built, status_of  # noqa: E402
 from script import MOST_BYTES, MOST_DEEDS, run_lines, script_lines, suspended_text  # noqa: E402
 from traces import check_traces  # noqa: E402
 from words import check_words  # noqa: E402
+from work import within  # noqa: E402
 
 # At least so many workloads are drawn.
 LEAST = 10
 
-# A hostile workload is answered within so many seconds of processor time, in an address space of so many bytes.
+# A hostile workload is answered within so many seconds of processor time (work.py), in an address space of so many bytes.
 SECONDS = 10
 MEMORY = 64 << 20
 
@@ -121,13 +122,15 @@ def check_faults(checks, programs):
 
 def check_hostile(checks, programs):
     for name, (text, status, error) in HOSTILE.items():
-        printed = programs.run("eevdf_phases", [], text.encode(), limits={resource.RLIMIT_AS: MEMORY})
-        is_within = printed.out.count(b'"') <= 2 * MOST_DEEDS and len(printed.out) <= MOST_BYTES
-        is_right = printed.status == status and printed.errors.splitlines(keepends=True)[:1] == error.splitlines(keepends=True) and is_within
-        if printed.processor > SECONDS:
-            checks.look(name, f"takes {printed.processor:.1f} s")
-        else:
-            checks.look(name, None if is_right else f"status {printed.status}, {printed.errors!r}", f"{printed.processor:.1f} s")
+        with checks.unless_slow(name):
+            check_bounds(checks, programs, name, text, status, error)
+
+
+def check_bounds(checks, programs, name, text, status, error):
+    printed, late = within(SECONDS, programs, "eevdf_phases", [], text.encode(), {resource.RLIMIT_AS: MEMORY})
+    is_short = printed.out.count(b'"') <= 2 * MOST_DEEDS and len(printed.out) <= MOST_BYTES
+    is_right = printed.status == status and printed.errors.splitlines(keepends=True)[:1] == error.splitlines(keepends=True) and is_short
+    checks.look(name, late or (None if is_right else f"status {printed.status}, {printed.errors!r}"), f"{printed.processor:.1f} s")
 
 
 def check_full_size(checks, programs):
@@ -181,4 +184,4 @@ def main():
 
 
 if __name__ == "__main__":
-    sys.exit(main())
+    sys.exit(status_of(main))

@@ -11,6 +11,7 @@ from script import MOST_BYTES, run_lines, script_lines
 from trace_drawing import draw_trace
 from trace_faults import faulty_traces
 from trace_reading import read_trace
+from work import within
 
 TRACES = Path(__file__).resolve().parent / "traces"
 FLAGS = ([], ["--run"], ["--stats"])
@@ -18,7 +19,7 @@ FLAGS = ([], ["--run"], ["--stats"])
 # At least so many traces are drawn, and at most.
 LEAST, MOST = 40, 1000
 
-# One of the greatest length is read and played in so many seconds of processor time, in an address space of so many bytes.
+# One of the greatest length is read and played in so many seconds of processor time (work.py), in an address space of so many bytes.
 SECONDS = 20
 MEMORY = 512 << 20
 
@@ -83,10 +84,12 @@ def check_full_size(checks, programs):
     """Short lines, of which each ends a run and a sleep and has two new nice levels, all at one moment, so that little is played."""
     lines = [f"[0] 1.0: sched_switch: :1 [{100 + k % 40}] S ==> :{k % 1000 + 1} [120]\n" for k in range(400000)]
     data = "".join(lines).encode()[:MOST_BYTES].rpartition(b"\n")[0]
-    printed = programs.run("eevdf_phases", ["--from", "trace", "--stats"], data, limits={resource.RLIMIT_AS: MEMORY})
-    is_right = printed.status == 0 and printed.out.count(b"\n") == 1001 and printed.processor <= SECONDS
-    said = f"status {printed.status}, {printed.errors!r}, {len(data)} bytes, {printed.processor:.1f} s"
-    checks.look("a trace of the greatest length", None if is_right else said, said)
+    with checks.unless_slow("a trace of the greatest length"):
+        words = ["--from", "trace", "--stats"]
+        printed, late = within(SECONDS, programs, "eevdf_phases", words, data, {resource.RLIMIT_AS: MEMORY})
+        is_right = printed.status == 0 and printed.out.count(b"\n") == 1001
+        said = f"status {printed.status}, {printed.errors!r}, {len(data)} bytes, {printed.processor:.1f} s"
+        checks.look("a trace of the greatest length", late or (None if is_right else said), said)
 
 
 def check_traces(checks, programs, words):

@@ -18,9 +18,6 @@ LEFT, WIDTH, NEAR = 90, 890, 0.11
 
 UNITS = {"s": 10**9, "ms": 10**6, "µs": 1000, "ns": 1}
 
-# How many seconds the browser has.
-PATIENCE = 240
-
 # Of dark pages and light ones: the word that the browser takes, and the ground.
 GROUNDS = {"light": (1, "rgb(255, 255, 255)"), "dark": (0, "rgb(22, 22, 22)")}
 
@@ -33,7 +30,7 @@ def driven(chromium, page, ground):
         file.write_bytes(page.replace(b"</body>", script))
         words = [chromium, "--headless", "--no-sandbox", "--disable-gpu", f"--user-data-dir={folder}/profile", "--window-size=1100,1500",
                  "--virtual-time-budget=10000", f"--blink-settings=preferredColorScheme={GROUNDS[ground][0]}", "--dump-dom", file.as_uri()]
-        printed = run(words, seconds=PATIENCE)
+        printed = run(words)
     found = re.search(r'<pre id="result">(.*?)</pre>', printed.out.decode(), re.DOTALL)
     if printed.status or not found:
         raise Wrong(f"status {printed.status}: {printed.errors.decode(errors='replace')[-1000:]}")

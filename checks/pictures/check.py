@@ -33,7 +33,7 @@ from plain.workload import read_workload
 from program import SOURCES, Pictures, is_well, stored_workloads
 from race import check_race
 from refusals import check_refusals
-from runner import TOP
+from runner import TOP, status_of
 from stretch_table import check_stretch_table
 from svg import Wrong, expect
 
@@ -355,4 +355,4 @@ def main():
 
 
 if __name__ == "__main__":
-    sys.exit(main())
+    sys.exit(status_of(main))

@@ -16,8 +16,9 @@ from pictured import check_picture
 from plain.workload import read_workload
 from program import text_of
 from svg import SVG, Wrong, expect
+from work import within
 
-# The bounds of a large workload: seconds, and bytes of the address space.
+# The bounds of a large workload: seconds of processor time (work.py), and bytes of the address space.
 SECONDS, BYTES = 5, 1 << 30
 
 # What the pictures of the longest and of the fullest workload have at most, in bytes.
@@ -27,11 +28,10 @@ MOST_PAGE = 3_000_000
 
 
 def within_bounds(checks, words, data):
-    printed = checks.run(words, data, limits={resource.RLIMIT_AS: BYTES})
-    text = text_of(printed)
-    if min(printed.wall, printed.processor) > SECONDS:
-        raise Wrong(f"{printed.wall:.1f} seconds, of the processor {printed.processor:.1f}")
-    return text
+    printed, late = within(SECONDS, checks.programs, "eevdf_timeline", words, data, {resource.RLIMIT_AS: BYTES})
+    if late:
+        raise Wrong(late)
+    return text_of(printed)
 
 
 def check_widest(checks):

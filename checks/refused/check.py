@@ -18,7 +18,7 @@ import commands  # noqa: E402
 import unproved  # noqa: E402
 import uses  # noqa: E402
 from refusals import Refusals  # noqa: E402
-from runner import Checks, built, run  # noqa: E402
+from runner import Checks, built, run, status_of  # noqa: E402
 
 FLAGS = ("-O2", "-Wall", "-Wextra", "-shared", "-fPIC")
 
@@ -48,4 +48,4 @@ def main():
 
 
 if __name__ == "__main__":
-    sys.exit(main())
+    sys.exit(status_of(main))

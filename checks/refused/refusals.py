@@ -6,9 +6,6 @@ from pathlib import Path
 
 from runner import Printed
 
-# After so many seconds a run is ended. No run of a command takes a second.
-SECONDS = 20
-
 
 @dataclass(frozen=True)
 class Write:
@@ -48,13 +45,13 @@ class Refusals:
         self.programs = programs
         self.work = Path(work)
 
-    def run(self, name, words, workload, seconds=SECONDS, **refused):
+    def run(self, name, words, workload, **refused):
         """Runs a program on a workload. What is refused is named as in refuse.c, in small letters."""
         label = "-".join(f"{key}{value}" for key, value in sorted(refused.items()))
         counts = self.work / "-".join([name, *words, workload.stem, label, "counts"]).replace("/", "")
         variables = {key.upper(): str(value) for key, value in refused.items()}
         variables |= {"LD_PRELOAD": str(self.work / "refuse.so"), "COUNTS": str(counts)}
-        printed = self.programs.run(name, words, workload.read_bytes(), seconds=seconds, env=os.environ | variables)
+        printed = self.programs.run(name, words, workload.read_bytes(), env=os.environ | variables)
         told = counts.read_text().splitlines() if counts.exists() else []
         counts.unlink(missing_ok=True)
         return Run(printed, *counted(told))

@@ -11,21 +11,24 @@ from pathlib import Path
 
 sys.path.append(str(Path(__file__).resolve().parents[1]))
 
-from runner import TOP, Checks, run  # noqa: E402
+from runner import TOP, Checks, TooSlow, run, status_of  # noqa: E402
 
 CRATE = TOP / "crates" / "eevdf_uses"
 STEP = 32
 # How many runs there are at a time: each takes one processor, and a gigabyte or two.
 JOBS = 2
-# `rt try` ends a run after a minute of its own, and compiles before it.
-SECONDS = 600
+# So many seconds `rt try` gives a run.
+SECONDS = 1800
+IS_LATE = b"checked: no-answer: the program did not end within the time limit\n"
 # The program has ended with this status.
 ENDED = re.compile(rb"^run=ended status=(\d+) ", re.MULTILINE)
 
 
 def refused(number):
     """What came of a run whose request of this number is refused: 'whole', 'out of memory', or what is wrong."""
-    printed = run(["rt", "try", "--fail-alloc", str(number)], seconds=SECONDS, cwd=CRATE)
+    printed = run(["rt", "try", "--seconds", str(SECONDS), "--fail-alloc", str(number)], cwd=CRATE)
+    if IS_LATE in printed.errors:
+        raise TooSlow(f"the machine is too slow, or too busy: a run has no end after {SECONDS} seconds")
     wanted = (CRATE / "stdout").read_bytes()
     ended = ENDED.search(printed.errors)
     if ended and ended[1] == b"0" and printed.out == wanted:
@@ -56,4 +59,4 @@ def main():
 
 
 if __name__ == "__main__":
-    sys.exit(main())
+    sys.exit(status_of(main))

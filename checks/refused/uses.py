@@ -10,8 +10,6 @@ from sweep import first_of, sweep
 NAME = "eevdf_uses"
 # What a run may say that was refused a request: starting a thread takes memory too.
 REFUSED = (b"OutOfMemory", b"WouldBlock")
-# A run takes two seconds of four processors, and in the gate it shares them with other runs, whose threads wait for each other too.
-SECONDS = 180
 
 
 @dataclass
@@ -23,7 +21,7 @@ class Uses:
     faults: list = field(default_factory=list)
 
     def run(self, number):
-        return self.refusals.run(NAME, [], Path(os.devnull), seconds=SECONDS, refuse_memory=number)
+        return self.refusals.run(NAME, [], Path(os.devnull), refuse_memory=number)
 
     def look(self, number, run):
         """A run that is refused a request prints a beginning of the output and says so, or does without and prints it whole."""
@@ -37,10 +35,11 @@ class Uses:
 def check(checks, refusals, pool):
     """Looks whether each refused request for memory comes to a good end."""
     uses = Uses(refusals, (refusals.programs.top / "crates" / NAME / "stdout").read_bytes())
-    ample = uses.run(0)
-    uses.look(0, ample)
-    met = sweep(pool, uses.run, "memory", uses.look)
-    if ample.counts is None or met != ample.counts.memory or not met:
-        uses.faults.append(f"the sweep of memory met {met} requests, and with nothing refused there are {ample.counts}")
-    print(f"{met} requests for memory of {NAME} were refused", flush=True)
+    with checks.unless_slow(f"the rest of {NAME}"):
+        ample = uses.run(0)
+        uses.look(0, ample)
+        met = sweep(pool, uses.run, "memory", uses.look)
+        if ample.counts is None or met != ample.counts.memory or not met:
+            uses.faults.append(f"the sweep of memory met {met} requests, and with nothing refused there are {ample.counts}")
+        print(f"{met} requests for memory of {NAME} were refused", flush=True)
     checks.look(NAME, first_of(uses.faults))

@@ -1,7 +1,8 @@
 #!/usr/bin/env bash
 # examples/kernel/run.sh [FLAGS]: builds the kernel and runs it under qemu, with these flags of qemu besides. Prints its log. With
 # `-icount shift=6,sleep=off` the log repeats byte for byte. ARCHIVE names the library (crates/eevdf_c/out/libeevdf_c.a), CC the C
-# compiler (gcc). Ends with 1 where the kernel doesn't come to its end, and with 3 where there is no compiler or no qemu.
+# compiler (gcc). Ends with 1 where the kernel ends otherwise than it should, with 3 where there is no compiler or no qemu, and with 124
+# where qemu takes more than ten minutes.
 set -eu
 here=$(cd "$(dirname "$0")" && pwd)
 top=$here/../..
@@ -33,8 +34,9 @@ trap 'rm -rf "$work"' EXIT
 "$cc" -nostdlib -static -Wl,--build-id=none,-z,noexecstack,--no-warn-rwx-segments -T "$here/kernel.ld" -o "$work/kernel" \
   "$work/boot.o" "$work/kernel.o" "$work/threads.o" "$archive" "${libgcc[@]}"
 
-# the kernel ends qemu by its device for exits, with 33; one that hangs is ended after a minute
+# the kernel ends qemu by its device for exits, with 33; it takes some seconds, and one that hangs is ended
 status=0
-timeout 60 qemu-system-x86_64 -machine pc -m 32 -nodefaults -display none -serial stdio -no-reboot \
+timeout 600 qemu-system-x86_64 -machine pc -m 32 -nodefaults -display none -serial stdio -no-reboot \
   -device isa-debug-exit,iobase=0xf4,iosize=4 -kernel "$work/kernel" "$@" </dev/null || status=$?
+[ "$status" != 124 ] || { echo "examples/kernel/run.sh: qemu hasn't come to its end in 600 seconds" >&2; exit 124; }
 [ "$status" = 33 ] || { echo "examples/kernel/run.sh: qemu ended with $status" >&2; exit 1; }

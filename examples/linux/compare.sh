@@ -41,9 +41,9 @@ look_at_words() {
 # boot IMAGE INITRAMFS WORDS: boots Linux with these words, and keeps its log.
 boot() {
   local status=0
-  timeout 200 qemu-system-x86_64 -machine pc -accel tcg -m 512 -nodefaults -display none -serial stdio -no-reboot -kernel "$1" \
+  timeout 1200 qemu-system-x86_64 -machine pc -accel tcg -m 512 -nodefaults -display none -serial stdio -no-reboot -kernel "$1" \
     -initrd "$2" -append "$3 panic=-1" </dev/null >"$work/log" || status=$?
-  [ "$status" != 124 ] || fail "qemu hasn't come to its end in 200 seconds" 124
+  [ "$status" != 124 ] || fail "qemu hasn't come to its end in 1200 seconds" 124
   [ "$status" = 0 ] || fail "qemu ended with $status" 1
 }
 

@@ -3,7 +3,7 @@
 # with the library for kernels linked into vmlinux. Boots it in qemu, with preemption wherever Linux has it, and has the drawn calls made once
 # Linux has forbidden to run what isn't its code. Prints what the same calls come to in a program here, and what Linux says. Ends with 1
 # where they differ, or where Linux's build says a word of the library or Linux of a fault, with 3 where something is missing, and with 124
-# where qemu takes more than 200 seconds.
+# where qemu takes more than 1200 seconds.
 # FOLDER keeps the source and what is built of it, half a GB: yisumbek/linux in $XDG_CACHE_HOME or ~/.cache where none is given. What is
 # built is taken again where neither the source, nor the library, nor a file of this folder has changed. SOURCE names another tar archive of
 # Linux than the newest below /usr/src, MODULE the kept LLVM module of the library (crates/eevdf_c/out/module), beside which the archive for

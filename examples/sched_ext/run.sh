@@ -70,7 +70,7 @@ has_trace=yes
 rm -f "$work/ram"
 tr -d '\r' <"$work/log" | sed -n '/^[0-9]* CPUs$/,$p'
 if [ "$status" = 124 ]; then
-  ! grep -q '^the scheduler is loaded' "$work/log" || fail "the scheduler was loaded, and the machine had no end in $seconds seconds" 1
+  ! grep -q '^the scheduler is loaded' "$work/log" || fail "the scheduler was loaded, and the machine had no end in $seconds seconds" 124
   fail "qemu hasn't come to its end in $seconds seconds" 124
 fi
 [ "$status" = 0 ] || fail "qemu ended with $status" 1

@@ -1,7 +1,7 @@
 /*
  * loops.c FIRST LOOPS: the loop of a kernel over a queue with bounds and shares beside it, once for
  * each of so many seeds from the first on. It makes 100 calls that are drawn from the seed, as the
- * program `fair_loop` draws them, and reads after each by how much a request can be late, and what
+ * program `measures` draws them for fair-loop, and reads after each by how much a request can be late, and what
  * each task lacks of its share since it came or was moved; where a request can be later than was
  * promised, it stops. Half of the loops are promised 20 ms of virtual time. Of each loop it prints
  * how many calls were made, the greatest bound that was read, and the greatest lack.
