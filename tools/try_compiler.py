@@ -140,16 +140,15 @@ def wait_for_end(rt, look):
         time.sleep(PAUSE)
 
 
-def try_program(program, folder, given, said, look):
-    """The open program, or None, after `rt try` has ended; what that says goes to a file."""
+@contextmanager
+def trying(program, folder, given, said):
+    """`rt try`, with all of its files in a folder, and ended in the end; what it says goes to a file."""
     # the interpreter can't run these programs: its steps are few, and the run that is compiled with checks is awaited
     rt = subprocess.Popen(["rt", "try", "--steps", "1", "--", *words_of(program)], cwd=folder_of(program), stdin=given,
                           stdout=subprocess.DEVNULL, stderr=said, env={**os.environ, "TMPDIR": folder}, start_new_session=True)
     keeper = Keeper(rt, folder)
     try:
-        compiled = wait_for_program(rt, folder, look)
-        wait_for_end(rt, look)
-        return compiled
+        yield rt
     finally:
         # the number of one that has ended is its own until it is waited for
         if rt.poll() is None:
@@ -158,18 +157,30 @@ def try_program(program, folder, given, said, look):
         keeper.dismiss()
 
 
+@contextmanager
+def temporary_folder(program):
+    """A folder that is removed in the end, whatever others do in it."""
+    folder = tempfile.mkdtemp(prefix=f"{program}-")
+    try:
+        yield folder
+    finally:
+        shutil.rmtree(folder, ignore_errors=True)
+
+
+def text_of(said):
+    said.seek(0)
+    return said.read().decode(errors="replace")
+
+
 def compile_program(program):
     """The number of the open file of the program, which stands in no folder any more."""
     with ending_in_order() as look, tempfile.TemporaryFile() as given, tempfile.TemporaryFile() as said:
         given.write(LONG_TEXT)
         given.seek(0)
-        folder = tempfile.mkdtemp(prefix=f"{program}-")
-        try:
-            compiled = try_program(program, folder, given, said, look)
-        finally:
-            shutil.rmtree(folder, ignore_errors=True)
-        said.seek(0)
-        text = said.read().decode(errors="replace")
+        with temporary_folder(program) as folder, trying(program, folder, given, said) as rt:
+            compiled = wait_for_program(rt, folder, look)
+            wait_for_end(rt, look)
+        text = text_of(said)
     if compiled is None or not HAS_RUN.search(text):
         raise NotCompiled(text)
     return compiled

@@ -1,18 +1,35 @@
 """Programs that are compiled without a proof. Each is kept beside its sources, in crates/PROGRAM/out/unproved/ and under a name that is a
-digest of these, so it is taken as long as they stay as they are."""
+digest of these, so it is taken as long as they stay as they are. Those that checks run are compiled otherwise, and kept in out/plain/."""
 
 import fcntl
 import hashlib
 import os
 import shutil
 import subprocess
+from collections.abc import Callable
 from contextlib import contextmanager
+from dataclasses import dataclass
 
 from crate_copies import TOP, folder_of, read_crates, read_lines, say, with_all_below
+from plain_compiler import COMPILED, LINKED, compile_plain_program
 from try_compiler import compile_program
 
 # Of 256 bits, in hexadecimal digits: enough for sources that nobody makes alike.
 DIGITS = 32
+
+
+@dataclass(frozen=True)
+class Form:
+    """How a program is compiled: the folder in which it is kept, by which function and which further words."""
+
+    folder: str
+    compile: Callable
+    words: tuple[str, ...] = ()
+
+
+# What users run, which stops at a bad access too; and what checks run.
+SANITIZED = Form("unproved", compile_program)
+PLAIN = Form("plain", compile_plain_program, (*COMPILED, *LINKED))
 
 
 def sources_of(crate):
@@ -20,12 +37,12 @@ def sources_of(crate):
     return sorted(file for file in (folder_of(crate) / "src").rglob("*") if file.is_file())
 
 
-def digest_of(program):
+def digest_of(program, form):
     """A digest of all that the program is compiled from: the kit, and of the program and each crate below it the line of crates.txt and
-    the files of src/."""
+    the files of src/; and of the words by which it is compiled."""
     kit = subprocess.run(["rt", "version"], stdin=subprocess.DEVNULL, capture_output=True).stdout
     lines = read_lines()
-    made_from = hashlib.sha256(kit)
+    made_from = hashlib.sha256(kit + "\n".join(form.words).encode())
     for crate in with_all_below(read_crates(), [program]):
         made_from.update(f"\n{crate}: {' '.join(lines[crate])}\n".encode())
         for file in sources_of(crate):
@@ -35,11 +52,15 @@ def digest_of(program):
 
 
 class Kept:
-    """Where a program is kept."""
+    """Where a program is kept that is compiled so."""
 
-    def __init__(self, program):
+    def __init__(self, program, form):
         self.program = program
-        self.folder = folder_of(program) / "out" / "unproved"
+        self.form = form
+        self.folder = folder_of(program) / "out" / form.folder
+
+    def digest(self):
+        return digest_of(self.program, self.form)
 
     def open(self, digest):
         """The number of the open file, or None where it isn't kept."""
@@ -80,18 +101,19 @@ class Kept:
 
 def compile_and_keep(kept, digest):
     """Compiles the program, and keeps it where that can be done. Sources that were changed meanwhile have another digest by now."""
-    compiled = compile_program(kept.program)
+    compiled = kept.form.compile(kept.program)
     try:
-        if digest_of(kept.program) == digest:
+        if kept.digest() == digest:
             kept.keep(digest, compiled)
     except OSError as why:
         say(kept.program, f"it isn't kept: {why.strerror}")
     return compiled
 
 
-def open_program(program, before):
+def open_program(program, before, form=SANITIZED):
     """The number of the open file of the program, compiled from the sources as they stand; `before` is called before it is compiled."""
-    kept, digest = Kept(program), digest_of(program)
+    kept = Kept(program, form)
+    digest = kept.digest()
     compiled = kept.open(digest)
     if compiled is not None:
         return compiled
