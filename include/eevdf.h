@@ -81,7 +81,7 @@
  *   - who enters the kernel saves xmm0 and xmm1 before the first call, or all by fxsave, unless the
  *     interrupted code has none of them;
  *   - SSE is on: CR0.EM is 0 and CR4.OSFXSR is 1.
- * Of either a call takes at most 1 KiB of stack, and the two that rebase 1.5 KiB. These registers
+ * Of either a call takes at most 1 KiB of stack, and those that rebase 1.5 KiB. These registers
  * and this stack are of the object alone: what the kernel's memset and the two functions for memory
  * use comes on top. Neither has thread-local storage, threads or unwind tables, nor ends the
  * program: its instructions ud2 stand where no call comes, as the proofs say, while C keeps what it
@@ -269,14 +269,14 @@ typedef struct eevdf_memory {
 
 /*
  * The two functions for memory, which the caller defines, or takes over malloc and free from
- * libeevdf_malloc.a. The library asks for one block in eevdf_admit, of EEVDF_TASK_SIZE bytes
- * aligned to 8, and gives one back where a task ends. That need not be this task's: tasks of a
+ * libeevdf_malloc.a. The library asks for one block, of EEVDF_TASK_SIZE bytes aligned to 8, where
+ * a task is admitted, and gives one back where one ends. That need not be this task's: tasks of a
  * queue change places in their blocks. A block belongs to the library until it is given back
  * itself, so one inside the caller's own struct of a task will do where that struct stays as long.
- * eevdf_alloc is called by eevdf_admit alone, and eevdf_dealloc by eevdf_end, eevdf_close,
- * eevdf_hand_close, and eevdf_admit where it answers RANGE. They are called under whatever lock the
- * caller of these holds, of eevdf_hand_close perhaps none, and where there are several queues, on
- * several CPUs at once: what they share needs a lock of its own.
+ * eevdf_alloc is called by eevdf_admit and eevdf_fair_admit alone, and eevdf_dealloc by eevdf_end,
+ * eevdf_close, eevdf_hand_close, and the first two where they answer RANGE. They are called under
+ * whatever lock the caller of these holds, of eevdf_hand_close perhaps none, and where there are
+ * several queues, on several CPUs at once: what they share needs a lock of its own.
  * Where a kernel defines neither, the archive for kernels has none to give, and eevdf_admit answers
  * NO_MEMORY; over the archive for programs the linker says that they are missing.
  */

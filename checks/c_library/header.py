@@ -52,6 +52,7 @@ COMPILERS = (
 
 # Where the crate says how large what crosses to C is.
 SOURCES = TOP / "crates" / "eevdf_c" / "src"
+CALLERS = TOP / "checks" / "c_library" / "callers"
 SIZE = r"size_of::<{}>\(\) == (\d+)"
 SIZES = (
     ("opened.rt", "Opened", "EEVDF_QUEUE_SIZE"),
@@ -67,6 +68,35 @@ STRUCTS = (
     ("parcel_out.rt", "ParcelOut", "eevdf_parcel"),
 )
 TYPES = {"i64": "int64_t", "u64": "uint64_t"}
+
+
+# Where the header says who asks for memory and who gives it back, once its comments have no margins.
+ASKERS = re.compile(r"eevdf_alloc is called by (.*?) alone, and eevdf_dealloc by (.*?)\.")
+# A comment with the call that it belongs to, and an export with its contract.
+COMMENTED = re.compile(r"/\*((?:(?!\*/).)*)\*/\n(?:int64_t|void) (eevdf_\w+)\(", re.DOTALL)
+EXPORT = re.compile(r'extern "C" fn (eevdf_\w+)\((.*?)^{', re.DOTALL | re.MULTILINE)
+
+
+def names_in(text):
+    return set(re.findall(r"\beevdf_\w+", text))
+
+
+def other_askers():
+    """Of the calls that ask for memory or give it back, where their contracts, their comments or the test of refused requests disagree
+    with what the header says of the two functions for memory."""
+    header = (TOP / "include" / "eevdf.h").read_text()
+    said = ASKERS.search(re.sub(r"\n \* ?", " ", header))
+    if not said:
+        return "it doesn't say who calls eevdf_alloc"
+    ask, give = map(names_in, said.groups())
+    exports = "".join(file.read_text() for file in (SOURCES / "exports").glob("*.rt"))
+    refused = re.findall(r"return (eevdf_\w+)\(", (CALLERS / "memory.c").read_text())
+    others = (
+        ("may answer NO_MEMORY by contract", {name for name, contract in EXPORT.findall(exports) if "admits.IsAnswer" in contract}, ask),
+        ("are refused a request in memory.c", set(refused), ask),
+        ("have 'Interrupts: as memory'", {name for comment, name in COMMENTED.findall(header) if "as memory." in comment}, ask | give),
+    )
+    return "; ".join(f"other calls {what}: {', '.join(sorted(found ^ wanted))}" for what, found, wanted in others if found != wanted)
 
 
 def fields_of_header(name):
@@ -117,6 +147,7 @@ def check(tools):
     if SOURCES.exists():
         tools.checks.look("eevdf.h has the sizes that are proved", ", ".join(other_sizes()))
         tools.checks.look("eevdf.h has the fields of the crate", ", ".join(other_fields()))
+        tools.checks.look("eevdf.h names the calls that ask for memory", other_askers())
     for compiler, language, standards, package in COMPILERS:
         if not shutil.which(compiler):
             tools.checks.skip(f"eevdf.h by {compiler}", compiler, package)

@@ -27,6 +27,7 @@ struct edged_hand {
 
 static struct edged_queue first, second;
 static struct edged_hand between;
+static eevdf_bounds bounds;
 static unsigned char *blocks[BLOCKS];
 static unsigned requests, refused_request, given_back, failed;
 
@@ -79,12 +80,21 @@ void eevdf_dealloc(void *block)
 	fail("a block is given back that the library doesn't have");
 }
 
+/* The calls that ask for a block, by turns. */
+static int64_t admit_by_turns(eevdf_queue *queue, uint64_t task, int64_t nice, int64_t start)
+{
+	if (task % 2 == 0)
+		return eevdf_admit(queue, task, nice, SLICE, start);
+	return eevdf_fair_admit(&bounds, queue, task, nice, SLICE, start);
+}
+
 /* Admits a task; where the request is refused, looks that nothing has changed and does it again. */
 static void admit(eevdf_queue *queue, uint64_t task)
 {
 	const unsigned made = requests;
+	const int64_t nice = (int64_t)task - 6;
 	struct state before = state_of(queue, &between.hand), after;
-	int64_t answer = eevdf_admit(queue, task, (int64_t)task - 6, SLICE, 0);
+	int64_t answer = admit_by_turns(queue, task, nice, 0);
 
 	if (requests != made + 1)
 		fail("an admit makes another number of requests than one");
@@ -96,7 +106,7 @@ static void admit(eevdf_queue *queue, uint64_t task)
 	after = state_of(queue, &between.hand);
 	if (answer != EEVDF_NO_MEMORY || !is_same(&before, &after))
 		fail("an admit without memory says something else, or changes something");
-	if (eevdf_admit(queue, task, (int64_t)task - 6, SLICE, 0) != 0)
+	if (admit_by_turns(queue, task, nice, 0) != 0)
 		fail("an admit can't be done again");
 }
 
@@ -150,7 +160,7 @@ static void move(eevdf_queue *from, eevdf_queue *to, uint64_t task)
 static void admit_out_of_range(eevdf_queue *queue, uint64_t task)
 {
 	const unsigned made = requests, back = given_back;
-	int64_t answer = eevdf_admit(queue, task, 0, SLICE, EEVDF_TIME_MAX);
+	int64_t answer = admit_by_turns(queue, task, 0, EEVDF_TIME_MAX);
 	bool is_refused = requests == refused_request;
 
 	if (requests != made + 1)
@@ -168,13 +178,16 @@ static void walk(void)
 	eevdf_open(&first.queue);
 	eevdf_open(&second.queue);
 	eevdf_hand_open(&between.hand);
+	eevdf_fair_open(&bounds);
 	if (requests != 0)
 		fail("a queue or a hand asks for memory where it is opened");
 	for (uint64_t task = 0; task < TASKS; task++)
 		admit(&first.queue, task);
 	made = requests;
-	eevdf_admit(&first.queue, 0, 0, SLICE, 0);
-	eevdf_admit(&first.queue, TASKS, 20, SLICE, 0);
+	for (uint64_t at = 0; at < 2; at++) {
+		admit_by_turns(&first.queue, at, 0, 0);
+		admit_by_turns(&first.queue, TASKS + at, EEVDF_NICE_MAX + 1, 0);
+	}
 	for (uint64_t task = 0; task < TASKS / 2; task++) {
 		turns(&first.queue, 20);
 		move(&first.queue, &second.queue, task);
@@ -188,6 +201,7 @@ static void walk(void)
 		fail("the end of a task asks for memory");
 	admit(&second.queue, TASKS - 1);
 	admit_out_of_range(&second.queue, TASKS);
+	admit_out_of_range(&second.queue, TASKS + 1);
 	made = requests;
 	eevdf_take(&first.queue, &between.hand, TASKS - 2);
 	eevdf_hand_close(&between.hand);

@@ -1,9 +1,9 @@
 /*
- * stack.c: makes every call but the two that rebase on a painted stack, then these too, and prints how deep
- * the paint is gone: in many turns over 1024 tasks, and at the deepest trees that there can be. The
- * functions for memory take from a pool, and call nothing. Ends with 1 where that is more than the
- * limits, 1024 bytes, and 1536 with eevdf_rebase, which goes over the whole tree, or where a plan
- * of a tree isn't kept.
+ * stack.c: makes every call but those that rebase on a painted stack, then these too, and prints
+ * how deep the paint is gone: in many turns over 1024 tasks, and at the deepest trees that there
+ * can be. The functions for memory take from a pool, and call nothing. Ends with 1 where that is
+ * more than the limits, 1024 bytes, and 1536 with those that rebase, which go over the whole tree,
+ * or where a plan of a tree isn't kept.
  */
 #define _GNU_SOURCE
 #include "deepest.h"
