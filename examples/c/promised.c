@@ -5,6 +5,7 @@
  * ticks are short, and once one of them is as long as where interrupts were off for a while.
  */
 #include <eevdf.h>
+#include <inttypes.h>
 #include <stdbool.h>
 #include <stdio.h>
 
@@ -57,7 +58,11 @@ static bool run(const char *name, uint64_t longest)
 		const int64_t late = eevdf_fair_lateness_bound(&bounds, &queue);
 
 		if (late > PROMISED) {
-			printf("%s: stops at step %u, since a request can be late by %.1f ms\n", name, step, (double)late / 1e6);
+			int64_t ns = 0;
+
+			eevdf_fair_lateness_bound_in_time(&bounds, &queue, &ns);
+			printf("%s: stops at step %u, since a request can be late by %" PRId64 " in virtual time, "
+			       "%.1f ms at this load\n", name, step, late, (double)ns / 1e6);
 			eevdf_close(&queue);
 			return false;
 		}
@@ -66,7 +71,8 @@ static bool run(const char *name, uint64_t longest)
 		eevdf_fair_tick(&bounds, &queue, step == STEPS / 2 ? longest : 1 + drawn(TICK));
 		let_things_happen();
 	}
-	printf("%s: %d steps, and no request was late by more than %.1f ms\n", name, STEPS, (double)most / 1e6);
+	printf("%s: %d steps, and no request was late by more than %" PRId64 " in virtual time\n",
+	       name, STEPS, most);
 	eevdf_close(&queue);
 	return true;
 }
