@@ -66,7 +66,8 @@ impl<'a> FairQueue<'a> {
         FairQueue { queue, bounds, shares }
     }
 
-    /// Where the bounds stand, and where the queue, for a call that changes them.
+    /// Where the bounds stand, and where the queue, for a call that changes them. It borrows the shares too, so a pointer to these is taken
+    /// after it.
     fn places(&mut self) -> (*mut c_void, *mut c_void) {
         (self.bounds.0.as_mut_ptr().cast(), self.queue.place_of_queue())
     }
@@ -131,8 +132,8 @@ impl<'a> FairQueue<'a> {
 
     /// [`Queue::tick`]: the turn is longer by the charge, and each runnable task has its share of the time.
     pub fn tick(&mut self, time: impl Into<Nanoseconds>) -> Result<bool> {
-        let shares = self.shares.0.as_mut_ptr().cast();
         let (bounds, queue) = self.places();
+        let shares = self.shares.0.as_mut_ptr().cast();
         checked(unsafe { calls::eevdf_fair_share_tick(shares, bounds, queue, time.into().0) }).map(|answer| answer == 1)
     }
 
@@ -197,8 +198,8 @@ impl<'a> FairQueue<'a> {
     /// [`Queue::rebase`], and lowers the bounds and the shares with the virtual times.
     pub fn rebase(&mut self) -> i64 {
         let mut by = 0;
-        let shares = self.shares.0.as_mut_ptr().cast();
         let (bounds, queue) = self.places();
+        let shares = self.shares.0.as_mut_ptr().cast();
         unsafe { calls::eevdf_fair_share_rebase(shares, bounds, queue, &mut by) };
         by
     }
