@@ -1,6 +1,7 @@
 //! Finds the library, or with the feature `kernel` that for kernels: in the folder that EEVDF_LIB_DIR names, or else by pkg-config.
 
 use std::env;
+use std::path::Path;
 use std::process::Command;
 
 fn main() {
@@ -9,7 +10,11 @@ fn main() {
     tell_of_error();
     let name = if has_feature("KERNEL") { "eevdf_kernel" } else { "eevdf" };
     let folder = env::var("EEVDF_LIB_DIR").unwrap_or_else(|_| asked_of_pkg_config(name));
-    println!("cargo:rustc-link-search=native={folder}");
+    if Path::new(&folder).join(format!("lib{name}.a")).exists() {
+        println!("cargo:rustc-link-search=native={folder}");
+    } else {
+        tell_of_missing(name);
+    }
     link(&folder, name);
     if !has_feature("KERNEL") {
         // the names that the library asks memory by; the crate makes no call that does
@@ -38,10 +43,18 @@ fn tell_of_error() {
     }
 }
 
+/// Where pkg-config knows the library, or nothing.
 fn asked_of_pkg_config(name: &str) -> String {
     let asked = Command::new("pkg-config").args(["--variable=libdir", name]).output();
-    match asked {
-        Ok(said) if said.status.success() => String::from_utf8_lossy(&said.stdout).trim().to_string(),
-        _ => panic!("eevdf: set EEVDF_LIB_DIR to the folder of lib{name}.a, or let pkg-config find {name}.pc"),
-    }
+    let said = asked.ok().filter(|said| said.status.success()).map(|said| said.stdout).unwrap_or_default();
+    String::from_utf8_lossy(&said).trim().to_string()
+}
+
+/// No error, since `cargo doc` and `cargo check` need no library. Where one is needed cargo shows this beside the error of rustc.
+fn tell_of_missing(name: &str) {
+    let option = if name == "eevdf_kernel" { "--kernel " } else { "" };
+    println!(
+        "cargo:warning=there is no lib{name}.a. In eevdf's repository './build eevdf_c' makes it and './install {option}PREFIX' puts it into \
+         PREFIX/lib: set EEVDF_LIB_DIR to that folder, by an absolute path, or let pkg-config find {name}.pc"
+    );
 }

@@ -105,10 +105,19 @@ def check_form(tools):
     tools.checks.look("bindings/rust: cargo package", cargo(tools, "package", "--allow-dirty")[1])
 
 
+def check_without_library(tools):
+    """Where there is no library the pages are made all the same, and a build says how to get one."""
+    tools.checks.look("bindings/rust without the library: cargo doc", cargo(tools, "doc", "--no-deps", prefix="nowhere")[1])
+    made, fault = cargo(tools, "build", prefix="nowhere")
+    says = all(word in made.stderr for word in ("./build eevdf_c", "./install PREFIX", "EEVDF_LIB_DIR"))
+    tools.checks.look("bindings/rust without the library: cargo build", None if fault and says else f"says {fault}")
+
+
 def check_tests(tools):
     made, fault = cargo(tools, "test")
     count = sum(int(line.split()[3]) for line in made.stdout.splitlines() if line.startswith("test result: ok."))
     tools.checks.look("bindings/rust: cargo test", fault or (None if count else "no test was run"), f"{count} tests")
+    check_without_library(tools)
     tools.checks.look("bindings/rust: cargo doc", cargo(tools, "doc", "--no-deps")[1])
     tools.checks.look("bindings/rust with malloc: cargo test", cargo(tools, "test", "--features", "malloc")[1])
     tools.checks.look("bindings/rust without boxes: cargo test", cargo(tools, "test", "--no-default-features")[1])

@@ -91,6 +91,11 @@ pub use queue::{Entry, Queue, Sleeper};
 
 use memory::{BoundsMemory, SharesMemory};
 
+/// The example of README.md, which is run as those of the pages are.
+#[cfg(all(doctest, feature = "alloc"))]
+#[doc = include_str!("../README.md")]
+struct Readme;
+
 /// The version of the library that the crate is written for.
 const VERSION: i64 = 8000;
 

@@ -117,8 +117,11 @@ impl<'a> Queue<'a> {
     ///
     /// # Safety
     ///
-    /// Nobody else uses the memory until [`Queue::end_out`] or [`Hand::end_out`] gives it back, of whichever task and whichever queue or
-    /// hand to which tasks of this one may go; or until all of these queues and hands are dropped. Where a task ends otherwise, as by
+    /// The memory is a [`TaskMemory`] that [`TaskMemory::new`] has made or a call has given back. Uninitialised bytes won't do: where a task
+    /// ends, the crate reads there whether they are a box.
+    ///
+    /// Nobody else uses it until [`Queue::end_out`] or [`Hand::end_out`] gives it back, of whichever task and whichever queue or hand to
+    /// which tasks of this one may go; or until all of these queues and hands are dropped. Where a task ends otherwise, as by
     /// [`Queue::end`], nobody is told whose memory isn't used any more.
     pub unsafe fn admit_in(
         &mut self,
