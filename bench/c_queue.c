@@ -142,16 +142,24 @@ static int64_t pull_take(void)
 	return pulled;
 }
 
+/* Puts back what was pulled, if anything was. A look at the answer would be counted too. */
+static void put(void)
+{
+	const int64_t answer = eevdf_put(&queue, &hand);
+
+	(void)answer;
+}
+
 static void pull_take_put(void)
 {
 	pull_take();
-	eevdf_put(&queue, &hand);
+	put();
 }
 
 static void pull_take_renumber_put(void)
 {
 	eevdf_hand_renumber(&hand, (uint64_t)pull_take());
-	eevdf_put(&queue, &hand);
+	put();
 }
 
 static void warm_up(bool is_fair)

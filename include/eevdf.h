@@ -8,7 +8,8 @@
  *
  * ANSWERS. A call answers 0 or a number above it where it did what it says, and one of the errors
  * below 0 where it didn't. An error changes nothing. Where several errors fit, the one that the
- * call's comment names first is answered.
+ * call's comment names first is answered. The compiler warns where the answer of a call is ignored
+ * by which a task could be lost, or which task has moved (EEVDF_MUST_CHECK).
  *
  * UNITS. Real time is in nanoseconds. Virtual time is in units of which a task of nice level 0 ages
  * one a nanosecond, and a heavier one fewer; virtual times and lags have a sign. A task is a number
@@ -125,6 +126,18 @@ extern "C" {
 #else
 #define EEVDF_ALIGNED __attribute__((aligned(16)))
 #define EEVDF_ASSERT __extension__ _Static_assert
+#endif
+
+/*
+ * Marks a call whose answer is to be looked at: on an error the hand keeps the task, which is lost
+ * with it, or the answer is the task that has moved.
+ */
+#if defined(__cplusplus) && __cplusplus >= 201703L
+#define EEVDF_MUST_CHECK [[nodiscard]]
+#elif defined(__GNUC__)
+#define EEVDF_MUST_CHECK __attribute__((warn_unused_result))
+#else
+#define EEVDF_MUST_CHECK
 #endif
 
 /*
@@ -591,6 +604,7 @@ int64_t eevdf_take(eevdf_queue *queue, eevdf_hand *hand, uint64_t task);
  * a queue whose tasks needn't be known. A sleeping task is looked for from number 0 on each time.
  * Lock: the queue's. Interrupts: yes. BUSY: the hand holds a task. ABSENT: no task is here.
  */
+EEVDF_MUST_CHECK
 int64_t eevdf_take_any(eevdf_queue *queue, eevdf_hand *hand);
 
 /*
@@ -600,6 +614,7 @@ int64_t eevdf_take_any(eevdf_queue *queue, eevdf_hand *hand);
  * ABSENT: the hand is empty. PRESENT: the task's number is here. RANGE: it can't be placed. On an
  * error the hand keeps it.
  */
+EEVDF_MUST_CHECK
 int64_t eevdf_put(eevdf_queue *queue, eevdf_hand *hand);
 
 /*
@@ -607,6 +622,7 @@ int64_t eevdf_put(eevdf_queue *queue, eevdf_hand *hand);
  * Lock: the queue's. Interrupts: yes.
  * ABSENT: the hand is empty. PRESENT: the task's number is here. On an error the hand keeps it.
  */
+EEVDF_MUST_CHECK
 int64_t eevdf_put_asleep(eevdf_queue *queue, eevdf_hand *hand);
 
 /*
@@ -620,6 +636,7 @@ int64_t eevdf_put_asleep(eevdf_queue *queue, eevdf_hand *hand);
  * candidate's number is in `to` already. RANGE: it can't be placed there. On an error both queues
  * are as before.
  */
+EEVDF_MUST_CHECK
 int64_t eevdf_pull(eevdf_queue *to, eevdf_queue *from);
 
 /*
@@ -631,6 +648,7 @@ int64_t eevdf_pull(eevdf_queue *to, eevdf_queue *from);
  * come no closer. PRESENT: its number is in `to` already. RANGE: it can't be placed there. On an
  * error both queues are as before.
  */
+EEVDF_MUST_CHECK
 int64_t eevdf_pull_task(eevdf_queue *to, eevdf_queue *from, uint64_t task);
 
 /*

@@ -42,6 +42,21 @@ int main(void)
 	return !is_right || eevdf_version() != EEVDF_VERSION;
 }
 """
+# Ignores the answer of each call whose answer has to be looked at.
+IGNORING = """
+#include <eevdf.h>
+
+void ignore(eevdf_queue *queue, eevdf_queue *other, eevdf_hand *hand);
+
+void ignore(eevdf_queue *queue, eevdf_queue *other, eevdf_hand *hand)
+{
+	eevdf_take_any(queue, hand);
+	eevdf_put(queue, hand);
+	eevdf_put_asleep(queue, hand);
+	eevdf_pull(queue, other);
+	eevdf_pull_task(queue, other, 0);
+}
+"""
 COMPILERS = (
     ("gcc", "c", ("c99", "c11"), "gcc"),
     ("clang", "c", ("c99", "c11"), "clang"),
@@ -73,7 +88,7 @@ TYPES = {"i64": "int64_t", "u64": "uint64_t"}
 # Where the header says who asks for memory and who gives it back, once its comments have no margins.
 ASKERS = re.compile(r"eevdf_alloc is called by (.*?) alone, and eevdf_dealloc by (.*?)\.")
 # A comment with the call that it belongs to, and an export with its contract.
-COMMENTED = re.compile(r"/\*((?:(?!\*/).)*)\*/\n(?:int64_t|void) (eevdf_\w+)\(", re.DOTALL)
+COMMENTED = re.compile(r"/\*((?:(?!\*/).)*)\*/\n(?:EEVDF_MUST_CHECK\n)?(?:int64_t|void) (eevdf_\w+)\(", re.DOTALL)
 EXPORT = re.compile(r'extern "C" fn (eevdf_\w+)\((.*?)^{', re.DOTALL | re.MULTILINE)
 
 
@@ -143,6 +158,16 @@ def check_compiled(tools, compiler, language, standard):
         tools.checks.look(f"eevdf.h as {standard} by {compiler} {flag}", fault)
 
 
+def check_ignored(tools, compiler, language, standard):
+    """Each answer that is ignored is warned of, and nothing else."""
+    words = [compiler, f"-std={standard}", *WARNINGS, "-Wno-error", f"-I{TOP / 'include'}", "-c", "-o", tools.work / "ignoring.o"]
+    made = run([*words, "-x", language, "-"], input=IGNORING)
+    warned = re.findall(r"^<stdin>:(\d+):.*warning: .*\[-W(.*)\]$", made.stderr, re.MULTILINE)
+    ignored = [(str(at), "unused-result") for at, line in enumerate(IGNORING.splitlines(), 1) if line.startswith("\teevdf_")]
+    is_right = made.returncode == 0 and warned == ignored
+    tools.checks.look(f"eevdf.h as {standard} by {compiler}: ignored answers", None if is_right else f"says {made.stderr}")
+
+
 def check(tools):
     if SOURCES.exists():
         tools.checks.look("eevdf.h has the sizes that are proved", ", ".join(other_sizes()))
@@ -154,3 +179,4 @@ def check(tools):
             continue
         for standard in standards:
             check_compiled(tools, compiler, language, standard)
+            check_ignored(tools, compiler, language, standard)

@@ -65,8 +65,7 @@ BODIES = {
         if (eevdf_place_of(queue, task, &place) != 0) return RIGHT;
         eevdf_hand_open(&hand);
         eevdf_take(queue, &hand, task);
-        eevdf_put_asleep(queue, &hand);
-        return RIGHT;"""),
+        return eevdf_put_asleep(queue, &hand) == 0 ? RIGHT : EEVDF_BUSY;"""),
     "a rebase wakes who dozes": ("rebase", """
         eevdf_place place = { 0, 0 };
         for (uint64_t task = 0; task < EEVDF_TASKS; task++)
@@ -119,8 +118,7 @@ BODIES = {
         answer = eevdf_candidate(from);
         eevdf_take(from, &hand, (uint64_t)answer);
         if (eevdf_put(to, &hand) == 0) return answer;
-        eevdf_put(from, &hand);
-        eevdf_hand_close(&hand);
+        if (eevdf_put(from, &hand) != 0) eevdf_hand_close(&hand);
         return EEVDF_BALANCED;"""),
     "a pull that answers RANGE takes the task out and back": ("pull", """
         int64_t answer = RIGHT, task = eevdf_candidate(from);

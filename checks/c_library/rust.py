@@ -22,6 +22,25 @@ STRUCTS = (
 )
 
 
+# A program that ignores the answers by which a task or its memory may be lost, or which task has moved.
+IGNORING = """
+use eevdf::{Hand, HandMemory, Queue};
+
+#[test]
+fn answers_are_ignored() {
+    let (mut memory, mut queue, mut other) = (HandMemory::new(), Queue::boxed(), Queue::boxed());
+    let mut hand = Hand::open(&mut memory);
+    queue.take_any(&mut hand);
+    queue.put(&mut hand);
+    queue.put_asleep(&mut hand);
+    queue.pull(&mut other);
+    queue.pull_task(&mut other, 0);
+    queue.end_out(0);
+    hand.end_out();
+}
+"""
+
+
 def source(name):
     return (FOLDER / "src" / name).read_text()
 
@@ -105,6 +124,17 @@ def check_form(tools):
     tools.checks.look("bindings/rust: cargo package", cargo(tools, "package", "--allow-dirty")[1])
 
 
+def check_ignored(tools):
+    """Who ignores such an answer is warned of each, with the reason."""
+    test = tools.work / "rust" / "tests" / "ignoring.rs"
+    test.write_text(IGNORING)
+    made, _ = cargo(tools, "check", "--test", test.stem)
+    test.unlink()
+    warned = re.findall(r"unused return value of `\w+::<'a>::(\w+)` that must be used", made.stderr)
+    ignored = re.findall(r"^    (?:queue|hand)\.(\w+)\(", IGNORING, re.MULTILINE)
+    tools.checks.look("bindings/rust: ignored answers", None if warned == ignored else f"{ignored} are ignored, and {warned} warned of")
+
+
 def check_without_library(tools):
     """Where there is no library the pages are made all the same, and a build says how to get one."""
     tools.checks.look("bindings/rust without the library: cargo doc", cargo(tools, "doc", "--no-deps", prefix="nowhere")[1])
@@ -117,6 +147,7 @@ def check_tests(tools):
     made, fault = cargo(tools, "test")
     count = sum(int(line.split()[3]) for line in made.stdout.splitlines() if line.startswith("test result: ok."))
     tools.checks.look("bindings/rust: cargo test", fault or (None if count else "no test was run"), f"{count} tests")
+    check_ignored(tools)
     check_without_library(tools)
     tools.checks.look("bindings/rust: cargo doc", cargo(tools, "doc", "--no-deps")[1])
     tools.checks.look("bindings/rust with malloc: cargo test", cargo(tools, "test", "--features", "malloc")[1])

@@ -19,7 +19,7 @@ ERRORS = "ABSENT", "BALANCED", "NO_MEMORY", "BUSY", "PRESENT", "INVALID", "RANGE
 UNNAMED = {"admit_in", "end_out", "hand_end_out"}
 BESIDE_BOUNDS = "fair_"
 # A comment of the header with the call that it belongs to.
-DECLARED = re.compile(r"/\*((?:(?!\*/).)*)\*/\nint64_t eevdf_(\w+)\(", re.DOTALL)
+DECLARED = re.compile(r"/\*((?:(?!\*/).)*)\*/\n(?:EEVDF_MUST_CHECK\n)?int64_t eevdf_(\w+)\(", re.DOTALL)
 
 
 def documented():

@@ -9,7 +9,7 @@ from pathlib import Path
 HEADER = Path(__file__).resolve().parents[2] / "include" / "eevdf.h"
 
 # A comment with the declarations that it belongs to.
-COMMENTED = re.compile(r"/\*((?:(?!\*/).)*)\*/\n((?:[a-z_0-9]+ \**\w+\([^;]*\);\n)+)", re.DOTALL)
+COMMENTED = re.compile(r"/\*((?:(?!\*/).)*)\*/\n(?:EEVDF_MUST_CHECK\n)?((?:[a-z_0-9]+ \**\w+\([^;]*\);\n)+)", re.DOTALL)
 NAME = re.compile(r"(\w+)\(")
 
 

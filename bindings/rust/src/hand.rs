@@ -73,6 +73,7 @@ impl<'a> Hand<'a> {
 
     /// Ends the task in the hand, and gives the caller memory in which a task was, as [`Queue::end_out`](crate::Queue::end_out) does.
     /// `None` where the hand is empty.
+    #[must_use = "the memory is the caller's again"]
     pub fn end_out(&mut self) -> Option<NonNull<TaskMemory>> {
         let mut block = calls::Block { at: null_mut() };
         // SAFETY: it points to an opened hand that is borrowed alone, and the block is none

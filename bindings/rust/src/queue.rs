@@ -250,6 +250,7 @@ impl<'a> Queue<'a> {
     /// its task ends otherwise.
     ///
     /// `Absent` where it isn't here.
+    #[must_use = "the memory is the caller's again"]
     pub fn end_out(&mut self, task: u64) -> Result<NonNull<TaskMemory>> {
         let mut block = calls::Block { at: null_mut() };
         done(unsafe { calls::eevdf_end_out(self.at.as_ptr(), &mut block, task) })?;
@@ -307,6 +308,7 @@ impl<'a> Queue<'a> {
     /// the sleeping one of lowest number.
     ///
     /// `Busy` where the hand holds a task, or `Absent` where no task is here.
+    #[must_use = "it says which task is in the hand"]
     pub fn take_any(&mut self, hand: &mut Hand<'_>) -> Result<u64> {
         checked(unsafe { calls::eevdf_take_any(self.at.as_ptr(), hand.place()) })
     }
@@ -314,6 +316,7 @@ impl<'a> Queue<'a> {
     /// Puts the task in the hand here: runnable, placed with its lag. On an error the hand keeps it.
     ///
     /// `Absent` where the hand is empty, `Present` where the number is here, or `Range`.
+    #[must_use = "on an error the hand keeps the task, which ends where the hand is dropped"]
     pub fn put(&mut self, hand: &mut Hand<'_>) -> Result<()> {
         done(unsafe { calls::eevdf_put(self.at.as_ptr(), hand.place()) })
     }
@@ -321,6 +324,7 @@ impl<'a> Queue<'a> {
     /// Puts the task in the hand to sleep here, with its lag. On an error the hand keeps it.
     ///
     /// `Absent` where the hand is empty, or `Present` where the number is here.
+    #[must_use = "on an error the hand keeps the task, which ends where the hand is dropped"]
     pub fn put_asleep(&mut self, hand: &mut Hand<'_>) -> Result<()> {
         done(unsafe { calls::eevdf_put_asleep(self.at.as_ptr(), hand.place()) })
     }
@@ -329,6 +333,7 @@ impl<'a> Queue<'a> {
     /// the other load. Gives its number. On an error both queues are as before.
     ///
     /// `Absent` where no task waits there, `Balanced` where the loads would come no closer, `Present` where its number is here, or `Range`.
+    #[must_use = "it says which task has come here"]
     pub fn pull(&mut self, from: &mut Queue<'_>) -> Result<u64> {
         // SAFETY: they are two queues, since both are borrowed alone
         checked(unsafe { calls::eevdf_pull(self.at.as_ptr(), from.at.as_ptr()) })
@@ -338,6 +343,7 @@ impl<'a> Queue<'a> {
     ///
     /// `Absent` where it doesn't wait there, `Balanced` where the loads would come no closer, `Present` where its number is here, or
     /// `Range`.
+    #[must_use = "it says whether the task has come here"]
     pub fn pull_task(&mut self, from: &mut Queue<'_>, task: u64) -> Result<u64> {
         // SAFETY: they are two queues, since both are borrowed alone
         checked(unsafe { calls::eevdf_pull_task(self.at.as_ptr(), from.at.as_ptr(), task) })
