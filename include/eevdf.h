@@ -175,7 +175,7 @@ extern "C" {
 
 /* The errors. */
 enum {
-	EEVDF_ABSENT = -2,     /* there is no such task here, nobody runs, or the hand is empty */
+	EEVDF_ABSENT = -2,     /* no task such as the call asks for is here, or in the hand */
 	EEVDF_BALANCED = -11,  /* the task would bring two loads no closer */
 	EEVDF_NO_MEMORY = -12, /* the caller's function for memory gave none, or `at` is NULL */
 	EEVDF_BUSY = -16,      /* the hand holds a task, or `at` of the block isn't NULL */
@@ -397,7 +397,7 @@ int64_t eevdf_peek(const eevdf_queue *queue);
  * Who ran before waits, if it is another. The task is charged as any other, but what is proved of
  * fairness is of picks alone. Answers 0.
  * Lock: the queue's. Interrupts: yes.
- * INVALID: no number of a task. ABSENT: it isn't runnable here, and whoever ran runs on.
+ * INVALID: no number of a task. ABSENT: it sleeps here, or isn't here, and whoever ran runs on.
  */
 int64_t eevdf_run(eevdf_queue *queue, uint64_t task);
 
@@ -419,7 +419,8 @@ int64_t eevdf_tick(eevdf_queue *queue, uint64_t ns);
  * charges round down, so two short ones can leave some of a request that a single one uses up.
  * Nothing changes.
  * Lock: the queue's. Interrupts: yes. ABSENT: nobody runs, or a tick of EEVDF_TICK_MAX leaves some
- * of the request, as it may after ten yields; eevdf_running tells the two apart.
+ * of the request, as it may after ten yields. eevdf_running tells the two apart; in the second case
+ * the timer is set to EEVDF_TICK_MAX.
  */
 int64_t eevdf_time_to_resched(const eevdf_queue *queue);
 
@@ -452,7 +453,7 @@ int64_t eevdf_stop(eevdf_queue *queue);
  * them can keep one that never sleeps from the CPU, for ever. Linux keeps a task that owes time in
  * the queue until it owes nothing; eevdf_doze holds it to where it left.
  * Lock: the queue's. Interrupts: yes. INVALID: no number of a task. ABSENT: the task doesn't run
- * here.
+ * here, but waits or sleeps, or isn't here.
  */
 int64_t eevdf_sleep(eevdf_queue *queue, uint64_t task);
 
@@ -466,7 +467,7 @@ int64_t eevdf_sleep(eevdf_queue *queue, uint64_t task);
  * and a rebase lowers it with the virtual times; it is lost where the task begins anew, ends, or
  * goes into a hand, so what it owes is let off where it comes to another queue.
  * Lock: the queue's. Interrupts: yes. INVALID: no number of a task. ABSENT: the task doesn't run
- * here.
+ * here, but waits or sleeps, or isn't here.
  */
 int64_t eevdf_doze(eevdf_queue *queue, uint64_t task, int64_t *lag);
 
@@ -500,8 +501,8 @@ int64_t eevdf_end_out(eevdf_queue *queue, eevdf_block *block, uint64_t task);
 /*
  * Gives a runnable task another nice level, and rescales its lag. Whoever ran runs on. Answers 0.
  * Lock: the queue's. Interrupts: yes.
- * INVALID: no number of a task, or no nice level. ABSENT: it isn't runnable here. RANGE: it
- * couldn't be placed.
+ * INVALID: no number of a task, or no nice level. ABSENT: it sleeps here, where eevdf_set gives it
+ * the level, or isn't here. RANGE: it couldn't be placed.
  */
 int64_t eevdf_renice(eevdf_queue *queue, uint64_t task, int64_t nice);
 

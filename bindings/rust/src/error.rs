@@ -22,7 +22,7 @@ use core::fmt;
 #[non_exhaustive]
 #[derive(Clone, Copy, PartialEq, Eq, Hash, Debug)]
 pub enum Error {
-    /// There is no such task here, or nobody runs, or the hand is empty.
+    /// No task such as the call asks for is here, or in the hand.
     Absent,
     /// A task would bring two loads no closer.
     Balanced,

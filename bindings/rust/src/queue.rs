@@ -174,7 +174,7 @@ impl<'a> Queue<'a> {
     /// Lets a runnable task run that no pick chose, as where a CPU begins with a task on it. Who ran before waits,
     /// if it is another.
     ///
-    /// `Absent` where it isn't runnable here, and whoever ran runs on.
+    /// `Absent` where it sleeps here, or isn't here, and whoever ran runs on.
     pub fn run(&mut self, task: u64) -> Result<()> {
         done(unsafe { calls::eevdf_run(self.at.as_ptr(), task) })
     }
@@ -186,8 +186,11 @@ impl<'a> Queue<'a> {
         checked(unsafe { calls::eevdf_tick(self.at.as_ptr(), time.into().0) }).map(|answer| answer == 1)
     }
 
-    /// The shortest time in nanoseconds whose tick uses up the running task's request. `None` where nobody runs, or where the longest
-    /// tick, of a second, leaves some of the request. A timer is set to it after each pick and after each charge, since charges round down.
+    /// The shortest time in nanoseconds whose tick uses up the running task's request. A timer is set to it after each pick and after each
+    /// charge, since charges round down.
+    ///
+    /// `None` where nobody runs, or where the longest tick, of a second, leaves some of the request. [`Queue::running`] tells the two apart;
+    /// in the second case the timer is set to a second.
     pub fn time_to_resched(&self) -> Option<u64> {
         checked(unsafe { calls::eevdf_time_to_resched(self.at.as_ptr()) }).ok()
     }
@@ -212,7 +215,7 @@ impl<'a> Queue<'a> {
 
     /// The running task falls asleep here, with the lag that it has, cut to the charge of two slices to either side.
     ///
-    /// `Absent` where it doesn't run here.
+    /// `Absent` where it doesn't run here, but waits or sleeps, or isn't here.
     pub fn sleep(&mut self, task: u64) -> Result<()> {
         done(unsafe { calls::eevdf_sleep(self.at.as_ptr(), task) })
     }
@@ -221,7 +224,7 @@ impl<'a> Queue<'a> {
     /// place, the virtual runtime at which it leaves. Gives the lag with which it leaves. The place is lost where the task begins anew, ends,
     /// or goes into a hand.
     ///
-    /// `Absent` where it doesn't run here.
+    /// `Absent` where it doesn't run here, but waits or sleeps, or isn't here.
     pub fn doze(&mut self, task: u64) -> Result<i64> {
         let mut lag = 0;
         done(unsafe { calls::eevdf_doze(self.at.as_ptr(), task, &mut lag) })?;
@@ -260,7 +263,7 @@ impl<'a> Queue<'a> {
 
     /// Gives a runnable task another nice level, and rescales its lag.
     ///
-    /// `Invalid`, `Absent` where it isn't runnable here, or `Range`.
+    /// `Invalid`, `Absent` where it sleeps here, which [`Queue::set`] allows, or isn't here, or `Range`.
     pub fn renice(&mut self, task: u64, nice: i64) -> Result<()> {
         done(unsafe { calls::eevdf_renice(self.at.as_ptr(), task, nice) })
     }
