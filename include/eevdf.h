@@ -630,8 +630,9 @@ int64_t eevdf_put_asleep(eevdf_queue *queue, eevdf_hand *hand);
  * Takes the candidate out of `from` and puts it into `to`, where that brings the two loads closer:
  * where the load of `to` and its weight come to less than the load of `from`. The task is runnable
  * there, placed with its lag, with a fresh request. Nobody is picked. Answers the task. So each
- * pull levels, and no task goes to and fro without end. Where nothing is runnable in `to`, the
- * loads come closer exactly if two tasks or more are runnable in `from`, whatever they weigh.
+ * pull levels, and while no task comes, goes or changes pulls come to an end. Where nothing is
+ * runnable in `to`, the loads come closer exactly if two tasks or more are runnable in `from`,
+ * whatever they weigh.
  * Lock: those of both queues. Interrupts: yes.
  * ABSENT: no task waits in `from`. BALANCED: the two loads would come no closer. PRESENT: the
  * candidate's number is in `to` already. RANGE: it can't be placed there. On an error both queues
