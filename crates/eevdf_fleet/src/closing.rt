@@ -71,6 +71,7 @@ impl<N: Names> RunQueues<N> {
             locks,
             journal,
             reserve,
+            thread_was_refused: _,
         } = self;
         let Reserve {
             queues,

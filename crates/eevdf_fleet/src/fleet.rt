@@ -253,6 +253,18 @@ impl<N: Names> Fleet<N> {
         self.queues.is_at_home(task, cpu)
     }
 
+    /// Whether `run_turns` was refused a thread for a CPU of this fleet: that CPU and those after it never come, and
+    /// a turn that waits for another CPU is to break. It becomes `true` before the run waits for the threads that have started, and never
+    /// `false` again. Of a fleet that was opened by `open` it is `false`.
+    pub fn thread_was_refused(&self) -> bool {
+        self.queues.thread_was_refused()
+    }
+
+    /// Says that a thread was refused that was to have a seat.
+    pub(crate) fn note_refused_thread(&self) {
+        self.queues.note_refused_thread();
+    }
+
     /// Whether the list has the seats of all CPUs, in order: the condition of `close`.
     pub fn has_all_seats(&self, seats: &Vec<Seat<N>>) -> bool
         ensures { IsTrue result ↔ AreSeats (cpus_of (setup_of N.kit)) seats.now.items }

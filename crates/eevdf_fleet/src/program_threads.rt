@@ -104,4 +104,8 @@ impl<'a, N: Names, G: Gate> SeatWork<Seat<N>> for Programs<'a, N, G> {
     fn work<R: Wait>(&self, rt: &R, _number: usize, seat: Seat<N>) -> Seat<N> {
         self.fleet.run_program(rt, self.gate, self.setup, seat)
     }
+
+    fn note_refused_thread(&self) {
+        self.fleet.note_refused_thread();
+    }
 }

@@ -14,6 +14,7 @@ use eevdf_ops::{CpuId, Homes};
 use eevdf_queue::TaskId;
 use std::alloc::{AllocError, Global};
 use std::marker::Model;
+use std::sync::atomic::{AtomicBool, Ordering};
 use std::sync::{Arc, Mutex};
 
 /// The run queues of all CPUs, each in a lock of its own, and the journal, where one is kept.
@@ -25,6 +26,8 @@ pub(crate) struct RunQueues<N: Names> {
     pub(crate) journal: Option<JournalLock<N>>,
     // The ends of rings can't be shared by threads, not even room for them: hence the lock, which no operation takes.
     pub(crate) reserve: Mutex<Reserve<N>>,
+    // Written at most once, so it costs nobody the line of what all threads read.
+    pub(crate) thread_was_refused: AtomicBool,
 }
 
 impl<N: Names> Model for RunQueues<N> {
@@ -104,6 +107,7 @@ impl<N: Names> RunQueues<N> {
                 seats: returned,
                 token,
             }),
+            thread_was_refused: AtomicBool::new(false),
         };
         Ok((queues, seats))
     }
@@ -147,5 +151,15 @@ impl<N: Names> RunQueues<N> {
         ensures { result ≡ is_at_home (homes_of (setup_of N.kit)) task cpu }
     {
         Homes::Alone(&self.homes).is_at_home(task, cpu)
+    }
+
+    /// Says that a thread was refused that was to have a seat.
+    pub(crate) fn note_refused_thread(&self) {
+        self.thread_was_refused.store(true, Ordering::SeqCst);
+    }
+
+    /// Whether that was said.
+    pub(crate) fn thread_was_refused(&self) -> bool {
+        self.thread_was_refused.load(Ordering::SeqCst)
     }
 }

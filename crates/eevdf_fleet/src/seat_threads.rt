@@ -55,6 +55,8 @@ fn run_in_threads<'s, E, S: Send + Drop + 's, R: Threads + Wait + Sync, W: SeatW
         };
         let run = move || work.work(rt, number, seat);
         let Ok(thread) = scope.spawn_with(promise, run) else {
+            // the scope waits for the threads that have started, and those may wait for this one
+            work.note_refused_thread();
             return Err(RunFault::Start);
         };
         threads.push_reserved(thread);

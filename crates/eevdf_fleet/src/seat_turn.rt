@@ -18,7 +18,7 @@ pub trait SeatTurn {
 
     /// Does the turn of this number, from 0 on: any operations of the seat. `Break` ends the thread, so that its CPU has no
     /// further turn; `Continue` goes on to the next turn, if there is one. The seat stays that of its CPU, and the turn is as
-    /// `turn_gives` says.
+    /// `turn_gives` says. One that waits for another CPU has to break where `Fleet::thread_was_refused` is `true`.
     fn turn<N: Names, R: Wait>(
         &self,
         rt: &R,

@@ -14,4 +14,7 @@ pub(crate) trait SeatWork<S> {
     fn work<R: Wait>(&self, rt: &R, number: usize, seat: S) -> S
         requires { fits self.now number seat }
         ensures { is_done self.now number result };
+
+    /// Says to the works on all seats that a thread was refused, and that those for this seat and for later ones never come.
+    fn note_refused_thread(&self);
 }

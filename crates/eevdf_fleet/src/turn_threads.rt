@@ -106,4 +106,8 @@ impl<'a, N: Names, T: SeatTurn> SeatWork<Seat<N>> for Turns<'a, N, T> {
         }
         seat
     }
+
+    fn note_refused_thread(&self) {
+        self.fleet.note_refused_thread();
+    }
 }

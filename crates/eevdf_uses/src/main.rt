@@ -1,6 +1,7 @@
 //! Small programs that embed the library, which docs/embedding.md explains. Each is run, and what comes of it is printed.
 #![tactic(auto)]
 
+mod barrier;
 mod checked_input;
 mod finding_work;
 mod hundred_years;
@@ -18,6 +19,7 @@ mod tickless;
 mod two_queues;
 mod two_threads;
 
+use crate::barrier::{cpus_with_a_task, met_with_history, met_without_history};
 use crate::checked_input::{Order, answers, two_cpus};
 use crate::hundred_years::first_day_out_of_range;
 use crate::idle_flags::{ends_beside_a_crowded, four_idle_cpus};
@@ -67,7 +69,9 @@ fn show_all(rt: &(impl Print + AllocGlobal + Threads + Wait + Sync)) -> io::Resu
     show_checked_input(rt)?;
     show_own_order(rt)?;
     show_two_threads(rt)?;
+    show_barrier(rt)?;
     show_idle_pulls(rt)?;
+    show_barrier_without_history(rt)?;
     show_idle_flags(rt, WAKES)?;
     show_one_history(rt)?;
     show_park(rt)?;
@@ -201,6 +205,13 @@ fn print_closed(rt: &impl Print, closed: &Closed) -> io::Result<()> {
     Ok(())
 }
 
+fn show_barrier(rt: &(impl Print + AllocGlobal + Threads + Wait + Sync)) -> io::Result<()> {
+    println!(rt; "barrier")?;
+    let setup = cpus_with_a_task(rt.alloc(), 3).map_err(|_| out_of_memory())?;
+    let met = met_with_history(rt, rt.alloc(), &setup).map_err(no_run)?;
+    println!(rt; "{met} CPUs have met")
+}
+
 fn show_idle_pulls(rt: &(impl Print + AllocGlobal + Threads + Wait + Sync)) -> io::Result<()> {
     println!(rt; "idle pulls")?;
     let setup = three_at_one(rt.alloc()).map_err(|_| out_of_memory())?;
@@ -221,6 +232,15 @@ fn print_places(rt: &impl Print, closed: &endless::Closed) -> io::Result<()> {
     }
     println!(rt; "{standing} tasks on {} CPUs", closed.queues.len())?;
     Ok(())
+}
+
+fn show_barrier_without_history(
+    rt: &(impl Print + AllocGlobal + Threads + Wait + Sync),
+) -> io::Result<()> {
+    println!(rt; "barrier without a history")?;
+    let setup = cpus_with_a_task(rt.alloc(), 5).map_err(|_| out_of_memory())?;
+    let met = met_without_history(rt, rt.alloc(), &setup).map_err(no_run)?;
+    println!(rt; "{met} CPUs have met")
 }
 
 fn show_idle_flags(

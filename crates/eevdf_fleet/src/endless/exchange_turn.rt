@@ -17,7 +17,8 @@ pub trait ExchangeTurn {
     ghost turn_gives: { Self → Kit → Seat → Seat → Bool → Type 0 } = { λ _ _ _ _ _. Unit {0} };
 
     /// Does a turn: any operations of the seat. `Break` ends the thread, so that its CPU has no further turn; after `Continue` comes
-    /// the next. The seat stays that of its CPU, and the turn is as `turn_gives` says.
+    /// the next. The seat stays that of its CPU, and the turn is as `turn_gives` says. One that waits for another CPU has to break where
+    /// `Fleet::thread_was_refused` is `true`.
     fn turn<N: Names, R: Wait>(
         &self,
         rt: &R,

@@ -101,4 +101,8 @@ impl<'a, N: Names, T: ExchangeTurn> SeatWork<Seat<N>> for Turns<'a, N, T> {
         }
         unreachable!()
     }
+
+    fn note_refused_thread(&self) {
+        self.fleet.note_refused_thread();
+    }
 }
