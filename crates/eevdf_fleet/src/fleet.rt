@@ -1,10 +1,10 @@
-ghost use Rattle.std.specs.Prelude.{◌≡◌, ◌≢◌, ◌*◌, ◌<◌, ◌≤◌, ◌↔◌, nat_lt, All, IfOk, IsErr, IsSome, IsSomeAnd, IsTrue};
-ghost use Rattle.std.specs.Prelude.{MatchResult, length, true};
+ghost use Rattle.std.specs.Prelude.{◌≡◌, ◌≢◌, ◌*◌, ◌<◌, ◌≤◌, ◌↔◌, nat_lt, All, IfOk, IfSome, IsErr, IsSome, IsSomeAnd, IsTrue};
+ghost use Rattle.std.specs.Prelude.{MatchResult, is_some, length, true};
 ghost use Rattle.std.specs.List.{list_all};
 ghost use Rattle.eevdf_ops.specs.{Histories.IsOneThread, Machine.start, Outcome.machine_of};
 ghost use Rattle.eevdf_ops.specs.Places.{IsPlaced};
 ghost use Rattle.eevdf_ops.specs.Programs.{deed_of, deeds_of, lines_by};
-ghost use Rattle.eevdf_ops.specs.Setup.{allows, cpus_of, homes_of, is_at_home, is_task};
+ghost use Rattle.eevdf_ops.specs.Setup.{allows, cpus_of, home_of, homes_of, is_at_home, is_task};
 ghost use Rattle.eevdf_fleet.specs.Drains.{HasDrained};
 ghost use Rattle.eevdf_fleet.specs.Fleets.{AllPostsTold, AreSeats, IsLogged, fresh_seats, quota_of};
 ghost use Rattle.eevdf_fleet.specs.{Fleets.setup_of, Tried.has_what};
@@ -251,6 +251,15 @@ impl<N: Names> Fleet<N> {
         ensures { result ≡ is_at_home (homes_of (setup_of N.kit)) task cpu }
     {
         self.queues.is_at_home(task, cpu)
+    }
+
+    /// The home of a task: the CPU at which it sleeps, and to which its wakes are posted. `None` where the setup doesn't have the task.
+    pub fn home_of(&self, task: TaskId) -> Option<CpuId>
+        ensures some { is_some result ≡ is_task (homes_of (setup_of N.kit)) task }
+        ensures home { IfSome result (λ cpu. cpu ≡ home_of (homes_of (setup_of N.kit)) task) }
+        ensures cpu { IfSome result (λ cpu. cpu < cpus_of (setup_of N.kit)) }
+    {
+        self.queues.home_of(task)
     }
 
     /// Whether `run_turns` was refused a thread for a CPU of this fleet: that CPU and those after it never come, and

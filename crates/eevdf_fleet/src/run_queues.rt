@@ -1,5 +1,5 @@
-ghost use Rattle.std.specs.Prelude.{◌≡◌, ◌≢◌, ◌<◌, ◌≤◌, [], nat_lt, vec_capacity, IfOk};
-ghost use Rattle.eevdf_ops.specs.Setup.{cpus_of, homes_of, is_at_home, is_task};
+ghost use Rattle.std.specs.Prelude.{◌≡◌, ◌≢◌, ◌<◌, ◌≤◌, [], is_some, nat_lt, vec_capacity, IfOk, IfSome};
+ghost use Rattle.eevdf_ops.specs.Setup.{cpus_of, home_of, homes_of, is_at_home, is_task};
 ghost use Rattle.eevdf_fleet.specs.{Fleets.all_fresh_parts, Fleets.setup_of, Sweeps.ComesAfter};
 
 use crate::board::NamedBoard;
@@ -151,6 +151,15 @@ impl<N: Names> RunQueues<N> {
         ensures { result ≡ is_at_home (homes_of (setup_of N.kit)) task cpu }
     {
         Homes::Alone(&self.homes).is_at_home(task, cpu)
+    }
+
+    /// The home of a task, where the setup has the task.
+    pub(crate) fn home_of(&self, task: TaskId) -> Option<CpuId>
+        ensures some { is_some result ≡ is_task (homes_of (setup_of N.kit)) task }
+        ensures home { IfSome result (λ cpu. cpu ≡ home_of (homes_of (setup_of N.kit)) task) }
+        ensures cpu { IfSome result (λ cpu. cpu < cpus_of (setup_of N.kit)) }
+    {
+        self.homes.get(task.index()).copied()
     }
 
     /// Says that a thread was refused that was to have a seat.

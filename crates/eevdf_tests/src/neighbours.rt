@@ -186,6 +186,14 @@ fn came<S: CallingSeat, R: Wait + Abort>(
     }
 }
 
+/// Whether a fleet says that a CPU is the home of its two tasks, and that there is no task behind the last one.
+fn tells_homes<S: CallingSeat>(rt: &impl Abort, fleet: &S::Fleet, cpu: u64) -> bool {
+    let home = Some(fixtures::cpu(rt, cpu));
+    S::home_of(fleet, task(rt, cpu)) == home
+        && S::home_of(fleet, task(rt, cpu.saturating_add(CPUS))) == home
+        && S::home_of(fleet, task(rt, CPUS.saturating_mul(2))).is_none()
+}
+
 /// Makes the calls of a CPU and of a neighbour on the seats of a fleet.
 fn call_both<S: CallingSeat, R: Wait + Abort>(
     rt: &R,
@@ -195,6 +203,7 @@ fn call_both<S: CallingSeat, R: Wait + Abort>(
     cpu: u64,
     neighbour: u64,
 ) {
+    assert!(rt; tells_homes::<S>(rt, fleet, cpu), "CPU {cpu}");
     for (caller, operation, wanted) in calls(rt, alloc, cpu, neighbour) {
         let seat = seats.get_mut(caller as usize).expect(rt, "seat");
         let came = came(rt, fleet, seat, operation);

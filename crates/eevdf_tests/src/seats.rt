@@ -2,7 +2,7 @@
 
 use crate::operation_texts::calls_of;
 use eevdf_fleet::{Fleet, Names, Operated, Refused, Seat, endless};
-use eevdf_ops::Op;
+use eevdf_ops::{CpuId, Op};
 use eevdf_queue::TaskId;
 use std::alloc::Global;
 use std::process::Abort;
@@ -21,6 +21,9 @@ pub trait CallingSeat {
 
     /// Posts a request, where the setup has the task. It has no handle `Wait`, so it compiles only as long as a post doesn't wait.
     fn posted(&mut self, fleet: &Self::Fleet, task: TaskId) -> Option<Operated>;
+
+    /// What the fleet says is the home of a task.
+    fn home_of(fleet: &Self::Fleet, task: TaskId) -> Option<CpuId>;
 }
 
 impl<N: Names> CallingSeat for Seat<N> {
@@ -38,6 +41,10 @@ impl<N: Names> CallingSeat for Seat<N> {
         } else {
             None
         }
+    }
+
+    fn home_of(fleet: &Fleet<N>, task: TaskId) -> Option<CpuId> {
+        fleet.home_of(task)
     }
 }
 
@@ -65,6 +72,10 @@ impl<N: Names> CallingSeat for endless::Seat<N> {
         } else {
             None
         }
+    }
+
+    fn home_of(fleet: &endless::Fleet<N>, task: TaskId) -> Option<CpuId> {
+        fleet.home_of(task)
     }
 }
 

@@ -1,6 +1,6 @@
-ghost use Rattle.std.specs.Prelude.{◌≡◌, ◌≢◌, ◌<◌, ◌≤◌, ◌↔◌, ◌+◌, length, nat_lt, vec_capacity, IfOk, IsSome, IsSomeAnd, IsTrue, map, true};
+ghost use Rattle.std.specs.Prelude.{◌≡◌, ◌≢◌, ◌<◌, ◌≤◌, ◌↔◌, ◌+◌, is_some, length, nat_lt, vec_capacity, IfOk, IfSome, IsSome, IsSomeAnd, IsTrue, map, true};
 ghost use Rattle.eevdf_ops.specs.{Machine.queue_at, Outcome.machine_of, Programs.deed_of};
-ghost use Rattle.eevdf_ops.specs.Setup.{cpus_of, homes_of, is_at_home, is_task};
+ghost use Rattle.eevdf_ops.specs.Setup.{cpus_of, home_of, homes_of, is_at_home, is_task};
 ghost use Rattle.eevdf_fleet.specs.{Drains.IsPickedAnew, Endless.Agree, Endless.AgreeOnPosts, Endless.AreListed};
 ghost use Rattle.eevdf_fleet.specs.Endless.{AreOfOneHistory, AreSeats, HasDone, HasDrained, IsOneThread};
 ghost use Rattle.eevdf_fleet.specs.Endless.{fresh_seats, told_by};
@@ -305,6 +305,15 @@ impl<N: Names> Fleet<N> {
         ensures { result ≡ is_at_home (homes_of (setup_of N.kit)) task cpu }
     {
         self.queues.is_at_home(task, cpu)
+    }
+
+    /// The home of a task: the CPU at which it sleeps, and to which its wakes are posted. `None` where the setup doesn't have the task.
+    pub fn home_of(&self, task: TaskId) -> Option<CpuId>
+        ensures some { is_some result ≡ is_task (homes_of (setup_of N.kit)) task }
+        ensures home { IfSome result (λ cpu. cpu ≡ home_of (homes_of (setup_of N.kit)) task) }
+        ensures cpu { IfSome result (λ cpu. cpu < cpus_of (setup_of N.kit)) }
+    {
+        self.queues.home_of(task)
     }
 
     /// Whether `run_turns` or `run_exchange_turns` was refused a thread for a CPU of this fleet: that CPU and those after it never come, and
