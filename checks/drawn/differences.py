@@ -93,7 +93,7 @@ def check(programs, case):
     return check_ordered(programs, case.words, case.data)
 
 
-BENCH_USAGE = Printed(b"usage: eevdf solo|replay|run [--history] [--times] [--strict] [FILE]\n", 2)
+BENCH_USAGE = Printed(b"usage: eevdf solo|replay|run [--history] [--times] [solo: --strict] [FILE]\n", 2)
 ORDERS_USAGE = Printed(b"usage: eevdf_orders [--seed N] [FILE]\n", 2)
 OTHER_WORDS = (
     ("eevdf", ()), ("eevdf", ("stop",)), ("eevdf", ("Solo",)), ("eevdf", ("",)), ("eevdf", ("help",)),

@@ -13,7 +13,7 @@ sys.path.append(str(Path(__file__).resolve().parents[1]))
 
 from documents import DOCUMENTS, NO_SCRIPT  # noqa: E402
 from marked import said_of  # noqa: E402
-from refused import NOT_ORDERED, OF_SCRIPTS, UNDONE, with_parts  # noqa: E402
+from refused import NOT_ORDERED, OF_SCRIPTS, UNDONE, with_all_notes, with_parts  # noqa: E402
 from runner import TOP, Checks, Printed, built, run, status_of  # noqa: E402
 from unread import OF_MISSING, PLAIN, UNREAD  # noqa: E402
 from words import TEXT, WORDS  # noqa: E402
@@ -70,7 +70,7 @@ def check_unread(checks, programs):
 def check_refused(checks, programs):
     """Deeds that are refused are told, and all else is as it is, but under `--strict`."""
     eevdf = programs.path("eevdf")
-    for case in OF_SCRIPTS:
+    for case in (*OF_SCRIPTS, with_all_notes()):
         for words in ([], ["--history"]):
             report = run([eevdf, "solo", *words], case.text)
             is_report = (report.status, report.errors) == (0, case.said.encode()) and report.out.startswith(b"cpu 0\n")
@@ -78,6 +78,7 @@ def check_refused(checks, programs):
             fault = Printed(f"fault: refused deed at script at {case.first}\n".encode(), 1, case.said.encode())
             strict = run([eevdf, "solo", "--strict", *words], case.text)
             look(checks, f"eevdf solo --strict {words}: {case.name}", strict, report if case.first is None else fault)
+    for case in OF_SCRIPTS:
         drawn = run([programs.path("eevdf_timeline"), "--stats"], case.text)
         checks.expect(f"eevdf_timeline: {case.name}", drawn, (drawn.status, drawn.errors) == (0, case.said.encode()))
 

@@ -68,6 +68,16 @@ def near_the_bound():
     return Refused("a tick out of range", unmarked(text).encode(), said_of_each(text, lines), 1)
 
 
+def with_all_notes():
+    """A deed that is refused beside a key that nothing reads and a program that isn't done."""
+    text = 'version = 3\nprogram = [["pick"], []]\nscript = [«"0 sleep 0"»]\n[[task]]\nniec = 5\n'
+    of_key = said_of_each(text.replace(BEGIN, "").replace(END, "").replace("niec", f"{BEGIN}niec{END}"),
+                          ['nothing reads the key "niec" of a task; the nearest that is known is nice'])
+    undone = "not done: the programs, which `eevdf run` does; solo does the script\n"
+    return Refused("a deed beside all else that is told", unmarked(text).encode(),
+                   of_key + said_of_each(text, ["0 sleep 0: not running"]) + undone)
+
+
 OF_SCRIPTS = (*REFUSED, *MORE, OF_LONG, near_the_bound())
 
 ONE_TASK = "[[task]]\n"

@@ -3,7 +3,7 @@
 from marked import Case
 
 USAGE = {
-    "eevdf": "usage: eevdf solo|replay|run [--history] [--times] [--strict] [FILE]\n",
+    "eevdf": "usage: eevdf solo|replay|run [--history] [--times] [solo: --strict] [FILE]\n",
     "eevdf_orders": "usage: eevdf_orders [--seed N] [FILE]\n",
     "eevdf_timeline": "usage: eevdf_timeline [--replay [--race]|--run] [--html|--perfetto|--table|--stats [--json]] [--rows cpus|tasks]"
                       " [--from NS] [--to NS] [--cpu N,..] [--task N,..] [FILE]\n",

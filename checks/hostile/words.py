@@ -3,7 +3,7 @@
 from runner import Printed
 from text import Text, given
 
-USAGE = Printed(b"usage: eevdf solo|replay|run [--history] [--times] [--strict] [FILE]\n", 2)
+USAGE = Printed(b"usage: eevdf solo|replay|run [--history] [--times] [solo: --strict] [FILE]\n", 2)
 NOTHING = given(b"")
 
 WORDS = (

@@ -2,13 +2,13 @@
 
 /// What is printed where the words aren't known.
 pub(crate) const USAGE: &[u8] =
-    b"usage: eevdf solo|replay|run [--history] [--times] [--strict] [FILE]\n";
+    b"usage: eevdf solo|replay|run [--history] [--times] [solo: --strict] [FILE]\n";
 
 /// What `--help` prints.
 pub(crate) const HELP: &[u8] = b"\
 eevdf runs a workload of tasks on the scheduler and prints each CPU's schedule.
 
-usage: eevdf solo|replay|run [--history] [--times] [--strict] [FILE]
+usage: eevdf solo|replay|run [--history] [--times] [solo: --strict] [FILE]
 
   solo         does the deeds of the workload's script, one after the other
   replay       plays the programs of the CPUs step by step, in the workload's order

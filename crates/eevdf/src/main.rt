@@ -16,7 +16,7 @@ use eevdf_bench::{
     BenchFault, NO_MEMORY, ProgramTexts, Reasoned, Watched, WorkloadText, engine_with_input,
     named_file, print, tell, tell_reason, tell_text, undone_text, write_text,
 };
-use eevdf_tell::{fault_explanation, tell_notes, tell_refused_deeds};
+use eevdf_tell::{fault_explanation, tell_notes};
 use std::alloc::Global;
 use std::fs::Files;
 use std::io;
@@ -72,19 +72,24 @@ fn run<R: Print + Threads + Wait + Sync, W: Read + Drop>(
     let mut reader = Watched::new(Reasoned::new(workload));
     let mut input = WorkloadText::new(alloc);
     let done = print_report(rt, alloc, asked, &mut reader, &mut input);
-    let file = named_file(&asked.file);
     match done {
         Ok(()) => {
-            tell_notes(errors, alloc, file, &input);
-            if let Some(undone) = undone_text(asked.command.kind, input.notes.parts) {
-                tell(errors, undone.as_bytes());
-            }
+            tell_beside(errors, alloc, asked, &input);
             0
         }
         Err(fault) => {
             let reason = reader.into_inner().reason();
-            print_fault(rt, errors, alloc, file, &input, &fault, reason)
+            print_fault(rt, errors, alloc, asked, &input, &fault, reason)
         }
+    }
+}
+
+/// Says what is told of a workload whose deeds were done: keys that nothing reads, deeds that were refused, and parts that the command
+/// doesn't do.
+fn tell_beside(errors: &impl Print, alloc: Global, asked: &Asked, input: &WorkloadText) {
+    tell_notes(errors, alloc, named_file(&asked.file), input);
+    if let Some(undone) = undone_text(asked.command.kind, input.notes.parts) {
+        tell(errors, undone.as_bytes());
     }
 }
 
@@ -118,13 +123,13 @@ fn print_report<R: Print + Threads + Wait + Sync, W: Read>(
     Ok(())
 }
 
-/// Prints the line of a fault, and on standard error where it stands in the workload, or why that can't be read. Where standard output takes
-/// no line, standard error has it, but for a pipe that nobody reads any more.
+/// Prints the line of a fault, and on standard error where it stands in the workload, or why that can't be read; of a deed that was refused
+/// all that is told beside a report. Where standard output takes no line, standard error has it, but for a pipe that nobody reads any more.
 fn print_fault(
     rt: &impl Print,
     errors: &impl Print,
     alloc: Global,
-    file: Option<&str>,
+    asked: &Asked,
     input: &WorkloadText,
     fault: &NoReport,
     reason: Option<io::Error>,
@@ -132,6 +137,7 @@ fn print_fault(
     let Ok(line) = fault.line(alloc) else {
         return print(rt, NO_MEMORY, 3);
     };
+    let file = named_file(&asked.file);
     match (io::writer(rt).write_all(&line), fault) {
         (Err(error), _) if error.kind() == ErrorKind::BrokenPipe => {}
         (Err(_), _) | (Ok(()), NoReport::Fault(BenchFault::Write)) => tell(errors, &line),
@@ -139,7 +145,7 @@ fn print_fault(
         (Ok(()), NoReport::Fault(fault)) => {
             tell_text(errors, fault_explanation(alloc, file, &input.bytes, fault));
         }
-        (Ok(()), NoReport::Refused(_)) => tell_refused_deeds(errors, alloc, file, input),
+        (Ok(()), NoReport::Refused(_)) => tell_beside(errors, alloc, asked, input),
     }
     fault.status()
 }

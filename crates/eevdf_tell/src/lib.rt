@@ -14,4 +14,4 @@ mod told_notes;
 
 pub use shown::explanation_text;
 pub use told_faults::{fault_explanation, place_explanation};
-pub use told_notes::{tell_notes, tell_refused_deeds};
+pub use told_notes::tell_notes;

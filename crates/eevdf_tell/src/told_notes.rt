@@ -19,7 +19,7 @@ pub fn tell_notes(errors: &impl Print, alloc: Global, file: Option<&str>, input:
 }
 
 /// Says which deeds of the workload's script were refused.
-pub fn tell_refused_deeds(
+fn tell_refused_deeds(
     errors: &impl Print,
     alloc: Global,
     file: Option<&str>,
