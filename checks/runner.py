@@ -125,6 +125,20 @@ def run(words, data=b"", seconds=PATIENCE, limits=None, stdin=None, stdout=None,
         return Printed(out.read(), status, said, wall, used.ru_utime + used.ru_stime, used.ru_maxrss * 1024)
 
 
+def run_on_terminal(words, data=b"", **more):
+    """The same of a program whose standard error is a terminal, which takes a few thousand bytes before anybody reads."""
+    watched, errors = os.openpty()
+    try:
+        printed = run(words, data, stderr=errors, **more)
+    finally:
+        os.close(errors)
+    said = b""
+    with open(watched, "rb", buffering=0) as terminal, suppress(OSError):
+        while piece := terminal.read(4096):
+            said += piece
+    return replace(printed, errors=said)
+
+
 # The programs that explain a fault on standard error, behind its line, and whether that line stands there too. Where there is no fault they
 # tell of keys that nothing reads. checks/faults/ looks at what they say; elsewhere it is left out.
 EXPLAINING = {"eevdf": False, "eevdf_orders": True, "eevdf_timeline": True}

@@ -7,6 +7,7 @@ that doesn't compile is told of, and a run that is ended leaves nothing behind, 
 The last line is 'N passed, M failed'."""
 
 import os
+import re
 import shutil
 import signal
 import subprocess
@@ -18,7 +19,7 @@ from contextlib import contextmanager, suppress
 from pathlib import Path
 
 from launched import WORKLOAD, look_at_streams, without_launcher
-from runner import TOP, Checks, TooSlow, run, status_of, stored
+from runner import TOP, Checks, TooSlow, run, run_on_terminal, status_of, stored
 
 # What takes the kept program takes a hundredth of what compiles it, on any machine.
 PART = 10
@@ -60,6 +61,15 @@ def kept_in(copy):
     """The names of what is kept of the program."""
     folder = copy / "crates" / "eevdf" / "out" / "unproved"
     return sorted(file.name for file in folder.iterdir() if file.name != "lock")
+
+
+def look_at_help(checks, copy):
+    """What a program says of itself is told without compiling it."""
+    for program in ("eevdf", "eevdf_orders", "eevdf_phases", "eevdf_timeline"):
+        for word in ("--help", "--version"):
+            printed = run([copy / program, word])
+            is_told = (printed.status, printed.errors) == (0, b"") and printed.out.startswith(program.encode())
+            checks.expect(f"./{program} {word}", printed, is_told and not (copy / "crates" / program / "out").exists())
 
 
 def look_at_first(checks, copy):
@@ -119,6 +129,16 @@ def look_at_wrong_source(checks, copy):
         printed = launch(copy, WORKLOAD, seconds=PATIENCE)
     is_told = f"{SOURCE}:".encode() in printed.errors and b"Traceback" not in printed.errors
     checks.expect("says where a source doesn't compile", printed, (printed.status, printed.out) == (3, b"") and is_told)
+
+
+def look_at_terminal(checks, copy):
+    """A terminal is told for how long it has been compiled, in a line that is removed before anything else is said."""
+    text = WORKLOAD.read_bytes()
+    with changed(copy, b"fn (\n"):
+        printed = run_on_terminal([copy / "eevdf", "solo"], text, seconds=PATIENCE)
+    told, is_removed, behind = printed.errors.partition(b"\r\x1b[K")
+    is_told = re.search(rb"(\reevdf: compiling, \d+:\d\d)+\Z", told) and is_removed and b"compiling" not in behind
+    checks.expect("a terminal is told for how long it has been compiled", printed, is_told and SOURCE.encode() in behind)
 
 
 def begun_in(folder, process):
@@ -240,10 +260,12 @@ def main():
     with tempfile.TemporaryDirectory(prefix="unbuilt-") as held:
         copy = Path(held) / "tree"
         shutil.copytree(TOP, copy, ignore=shutil.ignore_patterns(".git", "out", "must-fail"), symlinks=True)
+        look_at_help(checks, copy)
         look_at_kept(checks, copy, look_at_first(checks, copy))
         look_at_long_report(checks, copy)
         look_at_streams(checks, "./eevdf, unbuilt", copy / "eevdf")
         look_at_wrong_source(checks, copy)
+        look_at_terminal(checks, copy)
         look_at_ended(checks, copy, Path(held) / "ended")
         look_at_interrupted(checks, copy, Path(held) / "interrupted")
         look_at_build(checks, copy)

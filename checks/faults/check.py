@@ -15,6 +15,7 @@ from documents import DOCUMENTS, NO_SCRIPT  # noqa: E402
 from marked import said_of  # noqa: E402
 from refused import NOT_ORDERED, OF_SCRIPTS, UNDONE, with_all_notes, with_parts  # noqa: E402
 from runner import TOP, Checks, Printed, built, run, status_of  # noqa: E402
+from program_texts import asked_text  # noqa: E402
 from unread import OF_MISSING, PLAIN, UNREAD  # noqa: E402
 from words import TEXT, WORDS  # noqa: E402
 
@@ -152,7 +153,9 @@ def check_help(checks, programs):
             is_help = (printed.status, printed.errors) == (0, b"") and len(lines) > 8 and lines[2].startswith(f"usage: {program} ")
             told = all(any(line.lstrip().startswith(word) for line in lines) for word in ("FILE", "--help", "--version", "example: "))
             checks.expect(f"{program} {' '.join(words)}", printed, is_help and told and "docs/formats.md" in printed.out.decode())
+            checks.look(f"{program} {' '.join(words)}, unbuilt", None if asked_text(program, words).encode() == printed.out else "is another text")
         look(checks, f"{program} --version", run([programs.path(program), "--version"]), Printed(f"{program} {VERSION}\n".encode()))
+        look(checks, f"{program} --version, unbuilt", asked_text(program, ["--version"]), f"{program} {VERSION}\n")
 
 
 def check_writes(checks, programs):

@@ -5,6 +5,7 @@ import tempfile
 from pathlib import Path
 
 from runner import TOP, Printed, run
+from program_texts import asked_text
 
 USAGE = "usage: eevdf_phases [--from trace] [--run|--stats] [FILE]\n"
 UNKNOWN = "words are --run or --stats, --from trace, and the name of a file\n"
@@ -41,7 +42,8 @@ def check_said(checks, program):
     checks.expect("a word that isn't UTF-8", printed, printed == Printed(b"", 2, USAGE.encode()))
     for words in (["--help"], ["-h"], ["--run", "--help"]):
         printed = run([program, *words])
-        checks.expect(f"{words}", printed, (printed.status, printed.errors) == (0, b"") and USAGE.encode() in printed.out)
+        is_same = asked_text("eevdf_phases", words).encode() == printed.out
+        checks.expect(f"{words}", printed, (printed.status, printed.errors) == (0, b"") and USAGE.encode() in printed.out and is_same)
     printed = run([program, "--version"])
     checks.expect("--version", printed, printed.status == 0 and printed.out.startswith(b"eevdf_phases 0."))
 
