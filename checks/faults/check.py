@@ -118,7 +118,7 @@ def check_files(checks, programs, folder):
 def check_file_names(checks, programs, folder):
     """What is said of a file begins with its name."""
     eevdf, file = programs.path("eevdf"), Path(folder) / "faulty.toml"
-    for case in (*DOCUMENTS, OF_MISSING):
+    for case in (*DOCUMENTS, *OF_MISSING):
         file.write_bytes(case.text)
         said = of_file(file, case.said)
         wanted = said if case.said.startswith("line ") else f"{file}: {said}"
@@ -180,7 +180,7 @@ def main():
     checks = Checks(are_many=True)
     programs = built(*PROGRAMS)
     chosen = sys.argv[1:]
-    cases = (*DOCUMENTS, OF_MISSING, *WORDS)
+    cases = (*DOCUMENTS, *OF_MISSING, *WORDS)
     check_table(checks, programs, [case for case in cases if not chosen or any(word in case.name for word in chosen)])
     if not chosen:
         check_others(checks, programs)

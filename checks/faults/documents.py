@@ -17,6 +17,8 @@ NEAREST = "the nearest that is known is"
 NO_NUMBER = 'the number of a CPU stands in scripts alone; an operation of a program begins with its word, as "pick"'
 NO_WAKE = '"wake" stands in scripts alone; in programs "post" asks for a wake, and "drain" does it'
 NO_SLICE = "a slice is a number of nanoseconds from 100000 to 100000000, and"
+PHASES = "version = 1\nmachine = { lasts = '1ms' }\n"
+OF_PHASES = "this is a workload of phases, of which `eevdf_phases` makes one of a script"
 NO_SCRIPT = 'a script is done, and the workload has none: `script = ["0 pick", ..]` before the first [[task]]'
 
 
@@ -55,6 +57,9 @@ OF_TOML = (
 OF_DEEDS = (
     script("an unknown operation", f'unknown operation "slep"; {NEAREST} sleep', '"0 «slep» 1"'),
     script("two letters of an operation in the other order", f'unknown operation "pcik"; {NEAREST} pick', '"0 «pcik»"', version=1),
+    script("an operation with a capital", 'unknown operation "Pick"; words are in lower case, as pick', '"0 «Pick»"'),
+    script("an operation in capitals", 'unknown operation "SLEEP"; words are in lower case, as sleep', '"0 «SLEEP» 1"'),
+    script("an operation of a later version in capitals", f'unknown operation "DOZE"; {IN_SCRIPTS}', '"0 «DOZE» 1"'),
     script("an unknown operation like none", f'unknown operation "nap"; {IN_SCRIPTS}', '"0 «nap» 1"'),
     script("an unknown operation like none in version 1", f'unknown operation "nap"; {IN_SCRIPTS_OF_ONE}', '"0 «nap» 1"', version=1),
     script("an operation like one of a later version", f'unknown operation "renise"; {IN_SCRIPTS_OF_ONE}', '"0 «renise» 0 5"', version=1),
@@ -176,6 +181,11 @@ OF_KEYS = (
     document("no script", "missing script", NO_SCRIPT, "version = 1\nprogram = [[]]\n[[task]]\n"),
     document("no order", "missing order", "an order is played, and the workload has none: `order = [0, ..]` before the first [[task]]",
              "version = 1\nprogram = [[]]\n[[task]]\n", ("replay",)),
+    document("a workload of phases", "missing program", OF_PHASES, f"{PHASES}[[task]]\nname = 'a'\nphases = [{{ run = '1ms' }}]\n"),
+    document("a workload of phases whose slices have units", "bad value at task 0 slice", OF_PHASES, f"{PHASES}[[task]]\nslice = '3ms'\n"),
+    document("a workload of phases without a task", "missing task", OF_PHASES, PHASES),
+    document("a trace", NO_TOML, "this is a trace, of which `eevdf_phases --from trace` makes a workload",
+             "# cpus=1\n  bash-23 [001] 5077.123456: sched_switch: bash:23 [120] S ==> cat:24 [120]\n"),
     document("a script that is a string", "bad value at script", "script is an array of strings, each a deed, and this is of type string",
              'version = 1\nprogram = [[]]\nscript = «"0 pick"»\n[[task]]\n'),
     document("an order with a sign", "bad value at order at 2", "a caller is an integer from 0 on",

@@ -66,11 +66,21 @@ UNREAD = (
            f"{TOP}task = [{{ {', '.join(f'«key{place}» = 1' for place in range(MOST))}, «more» = 1, and_more = 1 }}]\n",
            *(f'nothing reads the key "key{place}" of a task; {OF_TASKS}' for place in range(MOST)), NOT_TOLD),
     unread("a key with a dot in it", f"{PLAIN}«cpus».first = 0\n", f'nothing reads the key "cpus" of a task; {OF_TASKS}'),
+    unread("a key whose parts have lines of their own", f"{PLAIN}«cpus».first = 0\ncpus.last = 1\n[task.cpus.more]\nnice = 5\n",
+           f'nothing reads the key "cpus" of a task; {OF_TASKS}'),
+    unread("a table whose parts have headers of their own", f"{PLAIN}[«machine»]\ncpus = 4\n[machine.more]\ncpus = 4\n",
+           'nothing reads the table "machine"; each table of a workload is a [[task]]'),
+    unread("a key in capitals", f"{PLAIN}«NICE» = 5\n", f'nothing reads the key "NICE" of a task; {NEAREST} nice'),
     unread("a table in a task", f"{PLAIN}[task.«niec»]\nnice = 5\n", f'nothing reads the key "niec" of a task; {NEAREST} nice'),
 )
 
 # A key that is missing, and one that nothing reads and that may be it.
 MISSING = 'version = 1\nprogram = [[]]\n«scripts» = ["0 pick"]\n[[task]]\n'
 NO_SCRIPT = 'a script is done, and the workload has none: `script = ["0 pick", ..]` before the first [[task]]\n'
-OF_MISSING = Case("a key that is missing and one like it", unmarked(MISSING).encode(), "fault: missing script\n",
-                  NO_SCRIPT + said_of(MISSING, f'nothing reads the key "scripts"; {NEAREST} script'))
+SAME = "version = 1\nprogram = [[]]\n[[task]]\n«niec» = 5\n[[task]]\n«niec» = 5\n"
+OF_MISSING = (
+    Case("a key that is missing and one like it", unmarked(MISSING).encode(), "fault: missing script\n",
+         NO_SCRIPT + said_of(MISSING, f'nothing reads the key "scripts"; {NEAREST} script')),
+    Case("a key that is missing and the same one of two tasks", unmarked(SAME).encode(), "fault: missing script\n",
+         NO_SCRIPT + said_of_each(SAME, 2 * (f'nothing reads the key "niec" of a task; {NEAREST} nice',))),
+)

@@ -70,12 +70,16 @@ impl Nearest {
         }
     }
 
-    /// This one, or another known word where that is nearer.
+    /// This one, or another known word where that is nearer. In capitals it is still the word.
     fn or(self, alloc: Global, word: &str, known: &'static str) -> Result<Nearest, AllocError> {
         if word.len() > MOST_ALIKE {
             return Ok(self);
         }
-        let edits = osa_distance(alloc, word, known)?;
+        let edits = if word.eq_ignore_ascii_case(known) {
+            0
+        } else {
+            osa_distance(alloc, word, known)?
+        };
         if edits < self.edits || (edits == self.edits && self.found.is_none()) {
             return Ok(Nearest {
                 edits,

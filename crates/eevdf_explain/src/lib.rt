@@ -14,6 +14,7 @@ mod parts;
 mod positions;
 mod reason;
 mod signatures;
+mod text_kinds;
 mod tokens;
 mod unread;
 mod value_faults;
@@ -24,6 +25,7 @@ mod written;
 
 pub use explanation::{Explanation, Mark, explain, mark_at};
 pub use positions::begins_character;
+pub use text_kinds::{DocumentKind, document_kind, has_event};
 pub use tokens::Place;
 pub use unread::unread_keys;
 pub use word_texts::told_word;

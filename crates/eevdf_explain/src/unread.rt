@@ -79,7 +79,7 @@ impl<'a> fmt::Display for Unread<'a> {
 }
 
 /// What a key belongs to.
-#[derive(Clone, Copy)]
+#[derive(Clone, Copy, PartialEq, Eq)]
 enum Owner {
     Workload,
     Task,
@@ -102,6 +102,7 @@ pub fn unread_keys(alloc: Global, bytes: &[u8]) -> Option<Vec<Explanation>> {
     let mut search = Search {
         bytes,
         found: Vec::new(alloc),
+        before: 0,
     };
     search.in_lines().ok()?;
     let mut told = Vec::new(alloc);
@@ -143,11 +144,25 @@ impl<'a> UnreadKey<'a> {
 struct Search<'a> {
     bytes: &'a [u8],
     found: Vec<UnreadKey<'a>>,
+    /// How many were found before the task whose keys are looked at.
+    before: usize,
 }
 
 impl<'a> Search<'a> {
     fn is_over(&self) -> bool {
         self.found.len() > MOST_TOLD
+    }
+
+    /// Adds a key that isn't among those found from a place on: the parts of one value, as `cpus.first` and `cpus.last`, have the same.
+    fn add(&mut self, from: usize, key: UnreadKey<'a>) -> Result<(), AllocError> {
+        for at in from..self.found.len() {
+            let found = self.found[at];
+            if found.name == key.name && found.owner == key.owner {
+                return Ok(());
+            }
+        }
+        self.found.push(key)?;
+        Ok(())
     }
 
     fn in_lines(&mut self) -> Result<(), AllocError> {
@@ -187,12 +202,15 @@ impl<'a> Search<'a> {
                     self.of_key(part, Owner::Task)?;
                     Ok(Owner::Unread)
                 }
-                None => Ok(Owner::Task),
+                None => {
+                    self.before = self.found.len();
+                    Ok(Owner::Task)
+                }
             };
         }
         if !IN_DOCUMENT.contains(&name) {
             let owner = Owner::Unread;
-            self.found.push(UnreadKey { place, name, owner })?;
+            self.add(0, UnreadKey { place, name, owner })?;
         }
         Ok(Owner::Unread)
     }
@@ -210,6 +228,7 @@ impl<'a> Search<'a> {
             let Some(table) = tables.next() else {
                 return Ok(());
             };
+            self.before = self.found.len();
             let mut pairs = Elements::of(self.bytes, table);
             for _pair in 0..pairs.most() {
                 let Some(pair) = pairs.next() else {
@@ -243,7 +262,7 @@ impl<'a> Search<'a> {
             Owner::Unread => true,
         };
         if !is_read {
-            self.found.push(UnreadKey { place, name, owner })?;
+            self.add(self.before, UnreadKey { place, name, owner })?;
         }
         Ok(())
     }

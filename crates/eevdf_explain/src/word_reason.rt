@@ -153,6 +153,13 @@ impl<'a> fmt::Display for WordReason<'a> {
             WordReason::Later { word, version } => {
                 write!(f, "\"{word}\" is known from version {version} on")
             }
+            WordReason::Near { word, nearest } if word.eq_ignore_ascii_case(nearest) => {
+                let word = Told(word);
+                write!(
+                    f,
+                    "unknown operation {word}; words are in lower case, as {nearest}"
+                )
+            }
             WordReason::Near { word, nearest } => {
                 let word = Told(word);
                 write!(
