@@ -37,7 +37,8 @@ def said_of(text, message):
     room = column - 1 - first
     gutter = " " * len(str(line))
     mark = " " * room + "^" * max(1, min(width, MOST - room))
-    return f"line {line}, column {column}: {message}\n{line} | {shown}\n{gutter} | {mark}\n"
+    words = f" {message}" if message else ""
+    return f"line {line}, column {column}:{words}\n{line} | {shown}\n{gutter} | {mark}\n"
 
 
 def document(name, line, message, text, words=("solo",), **more):

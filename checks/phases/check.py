@@ -15,7 +15,7 @@ sys.path[:0] = [str(HERE), str(HERE.parent)]
 
 from document import read  # noqa: E402
 from drawing import LONG_REQUEST, MANY_WAITS, UNRESUMED, UNRESUMED_SAID, draw  # noqa: E402
-from faulty import faulty  # noqa: E402
+from faulty import OTHERS, faulty  # noqa: E402
 from figures import figure_lines  # noqa: E402
 from hostile import HOSTILE, MANY_DEEDS, MANY_TASKS, ROWS_OF_MANY, ROWS_OF_MANY_TASKS  # noqa: E402
 from model import Machine  # noqa: E402
@@ -118,6 +118,10 @@ def check_faults(checks, programs):
         if printed != Printed(b"", 1, said.encode()):
             wrong.append(f"{said!r} is {printed}")
     checks.look("faulty workloads", "; ".join(wrong))
+    for words, text, line, what in OTHERS:
+        printed = programs.run("eevdf_phases", words, text.encode())
+        wanted = Printed(b"", 1, f"fault: {line}\n{what}\n".encode())
+        checks.expect(f"eevdf_phases {' '.join(words)}: {what}", printed, printed == wanted)
 
 
 def check_hostile(checks, programs):

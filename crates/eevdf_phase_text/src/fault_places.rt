@@ -19,7 +19,10 @@ pub fn fault_place(alloc: Global, bytes: &[u8], fault: &PhaseFault) -> Option<Ra
     if let Some(key) = key_of(&fault.wrong) {
         way.push(Step::Key(key)).ok()?;
         if let Some(found) = find(alloc, text, &way) {
-            let is_unknown = matches!(fault.wrong, Wrong::UnknownKey { .. });
+            let is_unknown = matches!(
+                fault.wrong,
+                Wrong::UnknownKey { .. } | Wrong::Misplaced { .. }
+            );
             return Some(if is_unknown { found.key } else { found.value });
         }
         way.pop();
@@ -55,7 +58,9 @@ fn push_item(way: &mut Vec<Step>, key: Key, place: usize) -> Result<(), AllocErr
 /// The key at which something is wrong, where it is at one.
 fn key_of(wrong: &Wrong) -> Option<&str> {
     match wrong {
-        Wrong::Bad(key) => Some(key.name()),
+        Wrong::Bad(key) | Wrong::BadTime { key, .. } | Wrong::Misplaced { key, .. } => {
+            Some(key.name())
+        }
         Wrong::UnknownKey { word, nearest: _ } => Some(word.as_str()),
         Wrong::NoTask { .. } => Some(Key::Resume.name()),
         Wrong::SameName(_) => Some(Key::Name.name()),

@@ -1,12 +1,32 @@
 //! The values at the keys of a table.
 
-ghost use Rattle.std.specs.Prelude.{◌≤◌, IfOk};
+ghost use Rattle.std.specs.Prelude.{◌≤◌, IfOk, IfSome};
 
 use crate::near_words::nearest_key;
-use crate::phase_fault::{Key, PhaseFault, Place, Wrong};
+use crate::phase_fault::{Key, Owner, PhaseFault, Place, Wrong};
+use crate::time_slips::time_slip;
 use eevdf_time_text::{MOST_NS, length};
 use std::alloc::Global;
 use toml::{Table, Value};
+
+/// The keys that one kind of table has alone, and whose they are.
+const ELSEWHERE: [(Key, Owner); 15] = [
+    (Key::Version, Owner::Document),
+    (Key::Seed, Owner::Document),
+    (Key::Machine, Owner::Document),
+    (Key::Cpus, Owner::Machine),
+    (Key::Lasts, Owner::Machine),
+    (Key::Tick, Owner::Machine),
+    (Key::Pull, Owner::Machine),
+    (Key::Preempt, Owner::Machine),
+    (Key::Name, Owner::Task),
+    (Key::Count, Owner::Task),
+    (Key::Every, Owner::Task),
+    (Key::AtOnce, Owner::Task),
+    (Key::Home, Owner::Task),
+    (Key::Slice, Owner::Task),
+    (Key::Begins, Owner::Task),
+];
 
 /// The text at a key, or the default where the key is absent.
 pub(crate) fn text_or<'a>(
@@ -40,11 +60,34 @@ pub(crate) fn length_or(
     ensures least { IfOk result (λ ns. least ≤ ns) }
     ensures most { IfOk result (λ ns. ns ≤ MOST_NS) }
 {
-    let text = text_or(table, place, key, default)?;
-    match length(text) {
-        Some(ns) if ns >= least => Ok(ns),
-        _ => Err(place.fault(Wrong::Bad(key))),
+    match table.get(key.name()) {
+        Some(value) => match length_of(value) {
+            Some(ns) if ns >= least => Ok(ns),
+            _ => Err(bad_time(value, place, key)),
+        },
+        None => match length(default) {
+            Some(ns) if ns >= least => Ok(ns),
+            _ => Err(place.fault(Wrong::Bad(key))),
+        },
     }
+}
+
+/// The length of time that a value is.
+pub(crate) fn length_of(value: &Value) -> Option<u64>
+    ensures most { IfSome result (λ ns. ns ≤ MOST_NS) }
+{
+    match value.as_str() {
+        Some(text) => length(text),
+        None => None,
+    }
+}
+
+/// The fault of a value that isn't the length of time or the range that it has to be.
+pub(crate) fn bad_time(value: &Value, place: Place, key: Key) -> PhaseFault {
+    place.fault(match time_slip(value) {
+        Some(slip) => Wrong::BadTime { key, slip },
+        None => Wrong::Bad(key),
+    })
 }
 
 /// The whole number at a key, from a least to a greatest one, or the default where the key is absent.
@@ -95,12 +138,25 @@ pub(crate) fn known_alone(
 ) -> Result<(), PhaseFault> {
     for name in table.keys() {
         if !is_among(name.as_str(), known) {
-            let word = String::from_str(alloc, name.as_str())?;
-            let nearest = nearest_key(alloc, name.as_str(), known)?;
-            return Err(place.fault(Wrong::UnknownKey { word, nearest }));
+            return Err(place.fault(unknown_key(alloc, name.as_str(), known)?));
         }
     }
     Ok(())
+}
+
+/// What is wrong with a key that isn't among those that are known at its place: where it belongs, or which of them is near.
+fn unknown_key(alloc: Global, name: &str, known: &[Key]) -> Result<Wrong, PhaseFault> {
+    for (key, owner) in ELSEWHERE.iter() {
+        if key.name() == name {
+            return Ok(Wrong::Misplaced {
+                key: *key,
+                owner: *owner,
+            });
+        }
+    }
+    let word = String::from_str(alloc, name)?;
+    let nearest = nearest_key(alloc, name, known)?;
+    Ok(Wrong::UnknownKey { word, nearest })
 }
 
 /// Whether one of the keys has this name.

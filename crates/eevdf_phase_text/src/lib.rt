@@ -11,8 +11,10 @@ mod phase_path;
 mod phases;
 mod reading;
 mod tasks;
+mod time_slips;
 
 pub use fault_places::fault_place;
 pub use phase_fault::{Key, PhaseFault, Place, Wrong};
 pub use phase_path::PhasePath;
 pub use reading::{MOST_BYTES, read_phases};
+pub use time_slips::TimeSlip;

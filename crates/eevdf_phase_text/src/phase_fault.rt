@@ -1,6 +1,7 @@
 //! Why a workload of phases is refused.
 
 use crate::phase_path::PhasePath;
+use crate::time_slips::TimeSlip;
 use std::alloc::{AllocError, AllocFailed};
 use std::error::Error;
 use std::fmt;
@@ -121,6 +122,24 @@ impl Key {
     }
 }
 
+/// What a key belongs to.
+#[derive(Clone, Copy, PartialEq, Eq, Debug)]
+pub enum Owner {
+    Document,
+    Machine,
+    Task,
+}
+
+impl fmt::Display for Owner {
+    fn fmt<W: fmt::Write>(&self, f: &mut fmt::Formatter<W>) -> fmt::Result {
+        f.write_str(match self {
+            Owner::Document => "before the first table",
+            Owner::Machine => "to the machine",
+            Owner::Task => "to a task",
+        })
+    }
+}
+
 /// What is wrong at a place.
 #[derive(PartialEq, Eq, Debug, Drop)]
 pub enum Wrong {
@@ -134,6 +153,16 @@ pub enum Wrong {
     Missing(Key),
     /// The key's value isn't what it has to be.
     Bad(Key),
+    /// The key's value isn't the length of time or the range that it has to be, since this is wrong with it.
+    BadTime {
+        key: Key,
+        slip: TimeSlip,
+    },
+    /// This key belongs elsewhere.
+    Misplaced {
+        key: Key,
+        owner: Owner,
+    },
     /// This key isn't known here; the nearest one that is, if one is near.
     UnknownKey {
         word: String,
@@ -180,10 +209,14 @@ impl fmt::Display for Wrong {
                 let name = key.name();
                 write!(f, "missing {name}")
             }
-            Wrong::Bad(key) => {
+            Wrong::Bad(key) => write_bad(f, *key),
+            Wrong::BadTime { key, slip } => {
+                write_bad(f, *key)?;
+                write!(f, "; {slip}")
+            }
+            Wrong::Misplaced { key, owner } => {
                 let name = key.name();
-                let expected = key.expected();
-                write!(f, "bad value of {name}, which is {expected}")
+                write!(f, "unknown key \"{name}\"; it belongs {owner}")
             }
             Wrong::UnknownKey { word, nearest } => {
                 write!(f, "unknown key {word:?}")?;
@@ -216,6 +249,13 @@ impl fmt::Display for Wrong {
             Wrong::TooMany => f.write_str("more than 1024 tasks"),
         }
     }
+}
+
+/// Tells that the value of a key isn't what it has to be.
+fn write_bad<W: fmt::Write>(f: &mut fmt::Formatter<W>, key: Key) -> fmt::Result {
+    let name = key.name();
+    let expected = key.expected();
+    write!(f, "bad value of {name}, which is {expected}")
 }
 
 /// Tells of the known word that is nearest to one that isn't known.

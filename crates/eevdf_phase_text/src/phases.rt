@@ -1,12 +1,12 @@
 //! The phases of a task.
 
-use crate::keys::{known_alone, list, number_or};
+use crate::keys::{bad_time, known_alone, length_of, list, number_or};
 use crate::near_words::{nearest_name, nearest_phase};
 use crate::phase_fault::{Key, PhaseFault, Place, Wrong};
 use crate::phase_path::PhasePath;
 use crate::tasks::{nice_of, place_of};
 use eevdf_closed_loop::{Group, Phase, Span};
-use eevdf_time_text::{length, span};
+use eevdf_time_text::span;
 use std::alloc::Global;
 use toml::{Table, Value};
 
@@ -147,18 +147,19 @@ fn table_phase(
 
 /// The span that a value is.
 pub(crate) fn span_of(value: &Value, place: Place, key: Key) -> Result<Span, PhaseFault> {
-    let text = value.as_str().ok_or(place.fault(Wrong::Bad(key)))?;
+    let Some(text) = value.as_str() else {
+        return Err(bad_time(value, place, key));
+    };
     match span(text) {
         Some((least, most)) => Ok(Span { least, most }),
-        None => Err(place.fault(Wrong::Bad(key))),
+        None => Err(bad_time(value, place, key)),
     }
 }
 
 fn period_of(value: &Value, place: Place) -> Result<u64, PhaseFault> {
-    let text = value.as_str().ok_or(place.fault(Wrong::Bad(Key::Timer)))?;
-    match length(text) {
+    match length_of(value) {
         Some(ns) if ns >= 1 => Ok(ns),
-        _ => Err(place.fault(Wrong::Bad(Key::Timer))),
+        _ => Err(bad_time(value, place, Key::Timer)),
     }
 }
 

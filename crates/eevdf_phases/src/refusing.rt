@@ -1,8 +1,8 @@
 //! What is said of a workload of phases or a trace that is refused.
 
 use eevdf_bench::{BenchFault, LoadFault, tell_text};
-use eevdf_explain::{Explanation, Mark, Place};
-use eevdf_phase_text::{PhaseFault, Wrong, fault_place};
+use eevdf_explain::{DocumentKind, Explanation, Mark, Place, document_kind, has_event};
+use eevdf_phase_text::{Key, PhaseFault, Wrong, fault_place};
 use eevdf_tell::{explanation_text, fault_explanation};
 use eevdf_trace::{TraceFault, Wrong as WrongTrace};
 use std::alloc::Global;
@@ -24,22 +24,72 @@ pub(crate) fn refuse(
     1
 }
 
-/// What is wrong, and where, in lines. `None` where that isn't found, and where there is no memory.
+/// Where what is wrong is, in lines, or which program or flag the text is for. `None` where that isn't found, and where there is no memory.
 fn explanation(
     alloc: Global,
     file: Option<&str>,
     bytes: &[u8],
     fault: &PhaseFault,
 ) -> Option<String> {
+    if let Some(other) = text_for_another(alloc, bytes, fault) {
+        return other_text(alloc, file, bytes, other);
+    }
     if fault.wrong == Wrong::NotToml {
         let fault = BenchFault::Load(LoadFault::NotToml);
         return fault_explanation(alloc, file, bytes, &fault);
     }
-    let place = fault_place(alloc, bytes, fault)?;
-    let wrong = &fault.wrong;
+    place_text(alloc, file, bytes, fault_place(alloc, bytes, fault)?)
+}
+
+/// What a text is that is no workload of phases, and what takes it, if that shows: it has another version, or a key that isn't known here.
+fn text_for_another(alloc: Global, bytes: &[u8], fault: &PhaseFault) -> Option<&'static str> {
+    match fault.wrong {
+        Wrong::NotToml if has_event(bytes) => Some("this is a trace, which --from trace reads"),
+        Wrong::Bad(Key::Version) | Wrong::UnknownKey { .. } | Wrong::Missing(Key::Machine) => {
+            workload_for_another(document_kind(alloc, bytes))
+        }
+        _ => None,
+    }
+}
+
+/// What a workload of another program is, and which program takes it.
+fn workload_for_another(kind: DocumentKind) -> Option<&'static str> {
+    match kind {
+        DocumentKind::Script => Some("this is a workload with a script, which `eevdf solo` does"),
+        DocumentKind::Programs => Some("this is a workload with programs, which `eevdf run` does"),
+        DocumentKind::Phases | DocumentKind::Unknown => None,
+    }
+}
+
+/// What a text without an event of a task is, and what takes it, if that shows.
+fn no_trace(alloc: Global, bytes: &[u8]) -> Option<&'static str> {
+    match document_kind(alloc, bytes) {
+        DocumentKind::Phases => Some(
+            "this is a workload of phases, which is read without --from trace",
+        ),
+        kind => workload_for_another(kind),
+    }
+}
+
+/// A message without a place.
+fn other_text(alloc: Global, file: Option<&str>, bytes: &[u8], message: &str) -> Option<String> {
+    let explanation = Explanation {
+        mark: None,
+        message: message.to_string(alloc).ok()?,
+    };
+    explanation_text(alloc, &explanation, file, bytes).ok()
+}
+
+/// A place, whose fault has been told before.
+fn place_text(
+    alloc: Global,
+    file: Option<&str>,
+    bytes: &[u8],
+    place: Range<usize>,
+) -> Option<String> {
     let explanation = Explanation {
         mark: Some(mark_of(bytes, place)?),
-        message: format!(in alloc; "{wrong}").ok()?,
+        message: String::new(alloc),
     };
     explanation_text(alloc, &explanation, file, bytes).ok()
 }
@@ -60,24 +110,23 @@ pub(crate) fn refuse_trace(
     1
 }
 
-/// What is wrong with a trace, and where, in lines. `None` where it has no place, and where there is no memory.
+/// Where what is wrong with a trace is, in lines, or what the text is in place of one. `None` where that isn't found, and where there is no
+/// memory.
 fn trace_explanation(
     alloc: Global,
     file: Option<&str>,
     bytes: &[u8],
     fault: &TraceFault,
 ) -> Option<String> {
+    if fault.wrong == WrongTrace::NoTask {
+        return other_text(alloc, file, bytes, no_trace(alloc, bytes)?);
+    }
     let place = fault.place?;
-    let wrong = fault.wrong;
     let place = Range {
         start: place.start,
         end: place.end,
     };
-    let explanation = Explanation {
-        mark: Some(mark_of(bytes, place)?),
-        message: format!(in alloc; "{wrong}").ok()?,
-    };
-    explanation_text(alloc, &explanation, file, bytes).ok()
+    place_text(alloc, file, bytes, place)
 }
 
 /// A place in a text, with its line and its column, which counts characters.

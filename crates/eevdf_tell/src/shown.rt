@@ -10,8 +10,8 @@ const MOST_SHOWN: usize = 100;
 const MOST_BEFORE: usize = 60;
 
 /// What an explanation says of these bytes, in lines: `line 14, column 12: `, where it has a place, and what is wrong; and then that line and
-/// a mark below the word. Of a file it begins with its name, `FILE:14:12: ` where it has a place. Of a long line a part is shown, and of what
-/// a terminal wouldn't print a space.
+/// a mark below the word. Of a file it begins with its name, `FILE:14:12: ` where it has a place. Without a message the place stands alone, as
+/// `line 14, column 12:`. Of a long line a part is shown, and of what a terminal wouldn't print a space.
 pub fn explanation_text(
     alloc: Global,
     explanation: &Explanation,
@@ -34,11 +34,12 @@ fn first_line(
     file: Option<&str>,
 ) -> Result<String, AllocError> {
     let message = explanation.message.as_str();
+    let space = if message.is_empty() { "" } else { " " };
     match (file, explanation.mark) {
         (None, None) => format!(in alloc; "{message}\n"),
         (None, Some(mark)) => {
             let (line, column) = (mark.line, mark.column);
-            format!(in alloc; "line {line}, column {column}: {message}\n")
+            format!(in alloc; "line {line}, column {column}:{space}{message}\n")
         }
         (Some(file), None) => {
             let name = told_name(alloc, file)?;
@@ -47,7 +48,7 @@ fn first_line(
         (Some(file), Some(mark)) => {
             let name = told_name(alloc, file)?;
             let (line, column) = (mark.line, mark.column);
-            format!(in alloc; "{name}:{line}:{column}: {message}\n")
+            format!(in alloc; "{name}:{line}:{column}:{space}{message}\n")
         }
     }
 }
