@@ -7,6 +7,7 @@ from math import ceil
 from model import Machine
 from plain.numbers import weight_of
 
+HEAD_OF_TIMERS = "timers: missed periods"
 HEAD_OF_ARRIVALS = "arrivals: begun, late, ended; stay mean ns, p99 ns, longest ns"
 HEAD = ("task: ran ns, share, fair share; waits, mean ns, p99 ns, longest ns; requests, late, latest virtual ns; sleeps; pulls")
 
@@ -26,6 +27,8 @@ class Figures:
     begun: int = 0
     late: int = 0
     stays: list = field(default_factory=list)
+    has_timer: bool = False
+    missed: int = 0
 
     def row(self, lasts):
         return (f"{self.name}: {self.ran}, {share_text(self.ran, lasts)}, {share_text(self.fair, lasts)}; {len(self.waits)}, "
@@ -67,6 +70,10 @@ def figures_of(actors):
         name = actor.kind.name if actor.kind.every else actor.name
         by_name.setdefault(name, Figures(name))
     return by_name
+
+
+def has_timer(phases):
+    return any(phase[0] == "timer" or phase[0] == "loop" and has_timer(phase[2]) for phase in phases)
 
 
 def share_text(time, lasts):
@@ -136,5 +143,10 @@ def figure_lines(plan):
             running[cpu] = None
     names = {kind.name for kind in plan.kinds if kind.every}
     arriving = [row for row in rows.values() if row.name in names]
+    for task, actor in zip(tasks, machine.actors):
+        task.figures.has_timer = has_timer(actor.kind.phases)
+        task.figures.missed += actor.missed
+    timed = [row for row in rows.values() if row.has_timer]
     return ([HEAD] + [row.row(plan.lasts) for row in rows.values()]
-            + [HEAD_OF_ARRIVALS] * bool(arriving) + [row.row_of_arrivals() for row in arriving])
+            + [HEAD_OF_ARRIVALS] * bool(arriving) + [row.row_of_arrivals() for row in arriving]
+            + [HEAD_OF_TIMERS] * bool(timed) + [f"{row.name}: {row.missed}" for row in timed])

@@ -67,12 +67,15 @@ class Actor:
         self.number, self.kind, self.name, self.home = number, kind, name, home
         self.words = generator_of(seed, number)
         self.is_suspended = False
+        self.missed = 0
         self.is_free = kind.every is not None
         self.begin(kind.begins)
         self.sleeps_until = kind.begins if kind.begins > 0 and not self.is_free else None
 
     def begin(self, moment):
         self.begun = moment
+        # the last moment to which it slept by a timer, or at which it began
+        self.timer = moment
         self.phases = for_ever(self.kind.phases)
         self.next_phase = next(self.phases)
         self.left = 0
@@ -82,6 +85,15 @@ class Actor:
 
     def go_on(self):
         self.next_phase = next(self.phases)
+
+    def timer_after(self, now, period):
+        """The next moment of a timer. Those that came since the last one are missed."""
+        moment = self.begun + ((self.timer - self.begun) // period + 1) * period
+        while moment <= now:
+            self.missed += 1
+            moment += period
+        self.timer = moment
+        return moment
 
 
 class Cpu:
@@ -255,8 +267,7 @@ class Machine:
             elif word == "sleep":
                 return self.fall_asleep(number, actor, self.now + actor.draw(phase[1]))
             elif word == "timer":
-                begun = actor.begun
-                return self.fall_asleep(number, actor, begun + ((self.now - begun) // phase[1] + 1) * phase[1])
+                return self.fall_asleep(number, actor, actor.timer_after(self.now, phase[1]))
             elif word == "suspend":
                 if self.kept[actor.kind.name]:
                     self.kept[actor.kind.name] -= 1

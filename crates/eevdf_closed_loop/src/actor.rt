@@ -33,6 +33,10 @@ pub(crate) struct Actor {
     pub begun: u64,
     /// The moment at which it arrived, which is no later.
     pub arrived: u64,
+    /// The moment up to which it has kept to timers: to that it slept by one as the last, or that at which it began.
+    pub kept_up_to: u64,
+    /// How many periods the tasks of this number have missed.
+    pub missed: u64,
     /// How many rounds of each loop, by depth, it has gone through.
     pub rounds: [u64; Phase::DEPTHS],
     pub draws: Draws,
@@ -46,6 +50,7 @@ impl Actor {
         self.left = 0;
         self.begun = now;
         self.arrived = arrived;
+        self.kept_up_to = now;
         self.rounds = [0; Phase::DEPTHS];
     }
 
@@ -64,11 +69,20 @@ impl Actor {
         }
     }
 
-    /// The next moment that is a whole number of periods after it began.
-    pub fn next_period(&self, now: u64, period: u64) -> u64 {
-        let since = now.saturating_sub(self.begun);
-        let periods = since.checked_div(period).unwrap_or(since);
-        let next = periods.saturating_add(1).saturating_mul(period);
-        self.begun.saturating_add(next)
+    /// It comes to a timer, and is to sleep until the next moment that is a whole number of periods after it began, which is told. Those
+    /// moments are missed that came since the last one.
+    pub fn comes_to_timer(&mut self, now: u64, period: u64) -> u64 {
+        let over = self.periods_until(now, period);
+        let kept = self.periods_until(self.kept_up_to, period);
+        self.missed = self.missed.saturating_add(over.saturating_sub(kept));
+        let next = over.saturating_add(1).saturating_mul(period);
+        self.kept_up_to = self.begun.saturating_add(next);
+        self.kept_up_to
+    }
+
+    /// How many whole periods there are from its begin to a moment.
+    fn periods_until(&self, moment: u64, period: u64) -> u64 {
+        let since = moment.saturating_sub(self.begun);
+        since.checked_div(period).unwrap_or(since)
     }
 }

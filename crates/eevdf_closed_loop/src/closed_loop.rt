@@ -130,6 +130,12 @@ impl ClosedLoop {
         self.schedule.arrived(task)
     }
 
+    /// How many periods of timers the task that has a number has missed, with those that had it before: at so many moments of a timer it had
+    /// not come to it yet. `None` where the machine has no such task.
+    pub fn missed(&self, task: TaskId) -> Option<u64> {
+        self.schedule.missed(task)
+    }
+
     /// How many tasks of the group at a place of the plan are suspended: they sleep until they are resumed. `None` where the plan has no
     /// such group.
     pub fn suspended(&self, group: usize) -> Option<usize> {

@@ -158,6 +158,8 @@ fn push_actors(
             left: 0,
             begun: group.begins,
             arrived: group.begins,
+            kept_up_to: group.begins,
+            missed: 0,
             rounds: [0; Phase::DEPTHS],
             draws: Draws::of_task(seed, number),
         })?;

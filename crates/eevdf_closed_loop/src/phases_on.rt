@@ -99,7 +99,7 @@ impl Schedule {
         period: u64,
         now: u64,
     ) -> Option<Step> {
-        let until = self.actors.get(running)?.next_period(now, period);
+        let until = self.actors.get_mut(running)?.comes_to_timer(now, period);
         self.falls_asleep(cpu, running, Condition::Until(until))
     }
 

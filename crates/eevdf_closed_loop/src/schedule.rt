@@ -73,6 +73,11 @@ impl Schedule {
         Some(self.actors.get(task.index())?.arrived)
     }
 
+    /// How many periods of timers the tasks of a number have missed.
+    pub fn missed(&self, task: TaskId) -> Option<u64> {
+        Some(self.actors.get(task.index())?.missed)
+    }
+
     /// How many tasks of a group are suspended.
     pub fn suspended(&self, group: usize) -> Option<usize> {
         Some(self.resumes.get(group)?.suspended.count())

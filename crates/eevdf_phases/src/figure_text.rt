@@ -7,26 +7,29 @@ use crate::names::Names;
 use crate::requests::Requests;
 use crate::row::{Row, Stays};
 use crate::waits::Waits;
-use eevdf_closed_loop::Plan;
+use eevdf_closed_loop::{ClosedLoop, Phase, Plan};
+use eevdf_queue::TaskId;
 use std::io;
 use std::io::Write;
 
-/// Prints a row for each task of a machine that is driven for so many nanoseconds; for tasks that arrive, one for all of a name, and a second
-/// one below.
+/// Prints a row for each task of a machine that was driven to its end; for tasks that arrive, one for all of a name, and a second one below;
+/// and below these one for each that has a timer.
 pub(crate) fn print_figures<W: Write>(
     out: &mut W,
     names: &Names,
-    plan: &Plan,
+    machine: &ClosedLoop,
     figures: &AllFigures,
-    lasts: u64,
 ) -> io::Result<()> {
+    let plan = machine.plan();
+    let lasts = machine.now;
     out.write_all(b"task: ran ns, share, fair share; waits, mean ns, p99 ns, longest ns; ")?;
     out.write_all(b"requests, late, latest virtual ns; sleeps; pulls\n")?;
     for row in figures.rows() {
         let fair = figures.fair_share(row, lasts);
         print_row(out, name_of(names, plan, row), row, fair, lasts)?;
     }
-    print_stays(out, names, plan, figures)
+    print_stays(out, names, plan, figures)?;
+    print_timers(out, names, machine, figures)
 }
 
 /// The name of a row: that of its task, or, where tasks arrive, that which all of them have.
@@ -101,6 +104,51 @@ fn print_stay<W: Write>(out: &mut W, name: &str, stays: &Stays) -> io::Result<()
     write!(out, "{name}: {begun}, {late}, {ended}; ")?;
     print_times(out, &stays.times)?;
     out.write_all(b"\n")
+}
+
+/// Prints how many periods were missed, in a row for each that has a timer.
+fn print_timers<W: Write>(
+    out: &mut W,
+    names: &Names,
+    machine: &ClosedLoop,
+    figures: &AllFigures,
+) -> io::Result<()> {
+    let plan = machine.plan();
+    let mut is_first = true;
+    for row in figures.rows() {
+        if has_timer(plan, row) {
+            if is_first {
+                out.write_all(b"timers: missed periods\n")?;
+            }
+            is_first = false;
+            let name = name_of(names, plan, row);
+            let missed = missed_in(machine, row);
+            writeln!(out, "{name}: {missed}")?;
+        }
+    }
+    Ok(())
+}
+
+/// Whether the tasks of a row have a timer among their phases.
+fn has_timer(plan: &Plan, row: &Row) -> bool {
+    match plan.groups.get(row.group) {
+        Some(group) => group
+            .phases
+            .iter()
+            .any(|phase| matches!(phase, Phase::Timer(_))),
+        None => false,
+    }
+}
+
+/// How many periods the tasks of a row have missed.
+fn missed_in(machine: &ClosedLoop, row: &Row) -> u64 {
+    let mut missed = 0u64;
+    for place in row.first..row.first.saturating_add(row.numbers) {
+        let task = TaskId::new(place as u64);
+        let of_task = task.and_then(|task| machine.missed(task));
+        missed = missed.saturating_add(of_task.unwrap_or(0));
+    }
+    missed
 }
 
 /// Prints hundredths of a per cent.

@@ -39,7 +39,7 @@ pub(crate) fn print_stats<W: Write>(
         };
         figures.count(machine, &line);
     }
-    print_figures(out, names, machine.plan(), figures, machine.now)?;
+    print_figures(out, names, machine, figures)?;
     Ok(Ending::of(machine))
 }
 
