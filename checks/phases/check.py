@@ -5,6 +5,7 @@ answers that the program rested on, each at its moment. Faulty workloads have to
 within bounds. The last line is 'N passed, M failed'."""
 
 import argparse
+import re
 import resource
 import sys
 from pathlib import Path
@@ -20,7 +21,7 @@ from figures import figure_lines  # noqa: E402
 from hostile import HOSTILE, MANY_DEEDS, MANY_TASKS, ROWS_OF_MANY, ROWS_OF_MANY_TASKS  # noqa: E402
 from model import Machine  # noqa: E402
 from moments import fall_of, moment_of, reported_by_cpu, timed_by_cpu  # noqa: E402
-from runner import TOP, Checks, Printed, built, status_of  # noqa: E402
+from runner import TOP, Checks, Printed, built, run, run_on_terminal, status_of  # noqa: E402
 from script import MOST_BYTES, MOST_DEEDS, run_lines, script_lines, suspended_text  # noqa: E402
 from traces import check_traces  # noqa: E402
 from words import check_words  # noqa: E402
@@ -162,6 +163,17 @@ def check_many_deeds(checks, programs):
     checks.look("--run of many deeds", fall_of(lines) if is_right else f"status {answers.status}, {len(lines)} lines, {lines[-1:]}")
 
 
+def check_progress(checks, programs):
+    """A terminal is told how far it is, and nobody else."""
+    program, text = programs.path("eevdf_phases"), MANY_DEEDS.encode()
+    for flag in ("--stats", "--run"):
+        printed, quiet = run_on_terminal([program, flag], text), run([program, flag], text)
+        line = rb"\reevdf_phases: \d+ % of the time is over"
+        is_told = re.fullmatch(rb"(%s)+\r\x1b\[K" % line, printed.errors)
+        is_right = (printed.out, printed.status, quiet.errors) == (quiet.out, 0, b"") and is_told
+        checks.look(f"{flag} on a terminal", None if is_right else f"status {printed.status}, {printed.errors[:200]!r}")
+
+
 def check_many_tasks(checks, programs):
     """There may be a million tasks, in the memory of their numbers."""
     figures = programs.run("eevdf_phases", ["--stats"], MANY_TASKS.encode(), limits={resource.RLIMIT_AS: MEMORY})
@@ -183,6 +195,7 @@ def main():
     check_full_size(checks, programs)
     check_many_deeds(checks, programs)
     check_many_tasks(checks, programs)
+    check_progress(checks, programs)
     check_traces(checks, programs, words)
     return checks.end()
 

@@ -11,6 +11,7 @@ mod help;
 mod names;
 mod playing;
 mod printing;
+mod progress;
 mod refusing;
 mod requests;
 mod row;
@@ -20,14 +21,14 @@ mod words;
 
 use crate::help::{HELP, USAGE};
 use crate::playing::play_text;
-use crate::words::{Asked, FROM, asked_of, unknown_word};
+use crate::words::{Asked, FROM, Output, asked_of, unknown_word};
 use eevdf_bench::{
     BenchFault, NO_MEMORY, ProgramTexts, Reasoned, Watched, WordFault, fault_text, named_file,
     read_input, status_of, take_file, tell, tell_reason,
 };
 use std::alloc::Global;
 use std::fs::Files;
-use std::io::Read;
+use std::io::{IsTerminal, Read};
 use std::process::ExitCode;
 use std::rt::Env;
 
@@ -39,8 +40,27 @@ const TEXTS: ProgramTexts = ProgramTexts {
 };
 
 fn main(rt: HostRuntime) -> ExitCode {
-    let (Ok(status) | Err(status)) = answer(&rt, &rt.stderr(), rt.alloc());
+    let errors = rt.stderr();
+    let watching = Watching {
+        errors: errors.is_terminal(),
+        output: rt.stdout().is_terminal(),
+    };
+    let (Ok(status) | Err(status)) = answer(&rt, &errors, rt.alloc(), watching);
     ExitCode::from(status)
+}
+
+/// Which streams are terminals.
+#[derive(Clone, Copy)]
+struct Watching {
+    errors: bool,
+    output: bool,
+}
+
+impl Watching {
+    /// Whether a line on standard error tells how far it is: on a terminal, unless what is printed comes there at the same time.
+    fn is_told(self, output: Output) -> bool {
+        self.errors && (output == Output::Figures || !self.output)
+    }
 }
 
 /// Does what the process's words ask for, and gives the exit status.
@@ -48,13 +68,15 @@ fn answer<R: Env + AllocGlobal + Files + Input + Print>(
     rt: &R,
     errors: &impl Print,
     alloc: Global,
+    watching: Watching,
 ) -> Result<u8, u8> {
     let mut words = TEXTS.words(rt, errors, errors, alloc)?;
     let file = take_file(&mut words, 1, &[FROM]);
-    let Some(asked) = asked_of(&words) else {
+    let Some(mut asked) = asked_of(&words) else {
         let unknown = unknown_word(alloc, &words, file.is_some()).ok();
         return Err(TEXTS.refuse(errors, errors, WordFault::Words, unknown));
     };
+    asked.is_watched = watching.is_told(asked.output);
     let name = named_file(&file);
     Ok(match name {
         Some(path) => {

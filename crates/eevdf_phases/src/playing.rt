@@ -4,6 +4,7 @@ use crate::ending::Ending;
 use crate::figures::AllFigures;
 use crate::names::Names;
 use crate::printing::{print_answers, print_stats};
+use crate::progress::Progress;
 use crate::refusing::{refuse, refuse_trace};
 use crate::script::print_script;
 use crate::words::{Asked, Output, Source};
@@ -76,7 +77,17 @@ fn print_all<R: Print>(
     asked: Asked,
 ) -> u8 {
     let mut pipe = Piped::new(io::writer(rt));
-    let ended = print_through(&mut pipe, alloc, setup, names, machine, asked.output);
+    let mut progress = Progress::new(errors, asked.is_watched);
+    let ended = print_through(
+        &mut pipe,
+        alloc,
+        setup,
+        names,
+        machine,
+        asked.output,
+        &mut progress,
+    );
+    progress.clear();
     match ended {
         // behind what it did in a trace each task is suspended, and waits for nobody
         Ok(ending) if asked.source == Source::Trace => ending.tell(errors),
@@ -88,16 +99,17 @@ fn print_all<R: Print>(
 }
 
 /// Drives a machine and prints what comes of it through a buffer.
-fn print_through<W: Write + Drop>(
+fn print_through<W: Write + Drop, P: Print>(
     pipe: &mut W,
     alloc: Global,
     setup: &Setup,
     names: &Names,
     machine: &mut ClosedLoop,
     output: Output,
+    progress: &mut Progress<P>,
 ) -> Result<Ending, ErrorKind> {
     let mut out = BufWriter::new(alloc, pipe).map_err(|error| error.kind())?;
-    let ending = print_output(&mut out, alloc, setup, names, machine, output).map_err(
+    let ending = print_output(&mut out, alloc, setup, names, machine, output, progress).map_err(
         |error| error.kind(),
     )?;
     out.flush().map_err(|error| error.kind())?;
@@ -105,20 +117,21 @@ fn print_through<W: Write + Drop>(
 }
 
 /// Drives a machine and prints what is asked for.
-fn print_output<W: Write>(
+fn print_output<W: Write, P: Print>(
     out: &mut W,
     alloc: Global,
     setup: &Setup,
     names: &Names,
     machine: &mut ClosedLoop,
     output: Output,
+    progress: &mut Progress<P>,
 ) -> io::Result<Ending> {
     match output {
-        Output::Script => print_script(out, alloc, setup, names, machine),
-        Output::Answers => print_answers(out, names, machine),
+        Output::Script => print_script(out, alloc, setup, names, machine, progress),
+        Output::Answers => print_answers(out, names, machine, progress),
         Output::Figures => {
             let mut figures = AllFigures::of(alloc, setup, machine.plan())?;
-            print_stats(out, names, machine, &mut figures)
+            print_stats(out, names, machine, &mut figures, progress)
         }
     }
 }

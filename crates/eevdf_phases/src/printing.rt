@@ -4,6 +4,7 @@ use crate::ending::Ending;
 use crate::figure_text::print_figures;
 use crate::figures::AllFigures;
 use crate::names::Names;
+use crate::progress::Progress;
 use eevdf_clocks::named_task;
 use eevdf_closed_loop::ClosedLoop;
 use eevdf_ops::{Answer, Deed, Line};
@@ -12,31 +13,35 @@ use std::io;
 use std::io::Write;
 
 /// Drives a machine to its end, and prints its deeds with their answers.
-pub(crate) fn print_answers<W: Write>(
+pub(crate) fn print_answers<W: Write, P: Print>(
     out: &mut W,
     names: &Names,
     machine: &mut ClosedLoop,
+    progress: &mut Progress<P>,
 ) -> io::Result<Ending> {
     for _deed in 0..u64::MAX {
         let Some(line) = machine.step() else {
             break;
         };
+        progress.count(machine);
         print_answer(out, names, moment_of(machine, &line), &line)?;
     }
     Ok(Ending::of(machine))
 }
 
 /// Drives a machine to its end, and prints what its tasks came to.
-pub(crate) fn print_stats<W: Write>(
+pub(crate) fn print_stats<W: Write, P: Print>(
     out: &mut W,
     names: &Names,
     machine: &mut ClosedLoop,
     figures: &mut AllFigures,
+    progress: &mut Progress<P>,
 ) -> io::Result<Ending> {
     for _deed in 0..u64::MAX {
         let Some(line) = machine.step() else {
             break;
         };
+        progress.count(machine);
         figures.count(machine, &line);
     }
     print_figures(out, names, machine, figures)?;

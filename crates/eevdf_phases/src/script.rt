@@ -6,6 +6,7 @@ ghost use Rattle.eevdf_phases.specs.Told as told;
 use crate::ending::Ending;
 use crate::names::Names;
 use crate::printing::{concerned, moment_of};
+use crate::progress::Progress;
 use eevdf_bench::Workload;
 use eevdf_closed_loop::{ClosedLoop, FallAsleep};
 use eevdf_ops::{Line, Setup};
@@ -17,12 +18,13 @@ use std::io::Write;
 
 /// Drives a machine and prints what it does as a workload: all of it, or as many deeds as a workload may have, in a text that is no longer
 /// than that of one.
-pub(crate) fn print_script<W: Write>(
+pub(crate) fn print_script<W: Write, P: Print>(
     out: &mut W,
     alloc: Global,
     setup: &Setup,
     names: &Names,
     machine: &mut ClosedLoop,
+    progress: &mut Progress<P>,
 ) -> io::Result<Ending> {
     let mut front = Vec::new(alloc);
     print_front(&mut front, setup, version_with(machine.plan().fall_asleep))?;
@@ -31,7 +33,7 @@ pub(crate) fn print_script<W: Write>(
     let around = front.len().saturating_add(back.len());
     out.write_all(&front)?;
     let room = Workload::MOST_BYTES.saturating_sub(around);
-    let ending = print_deeds(out, alloc, names, machine, room)?;
+    let ending = print_deeds(out, alloc, names, machine, room, progress)?;
     out.write_all(&back)?;
     Ok(ending)
 }
@@ -57,12 +59,13 @@ fn print_front<W: Write>(out: &mut W, setup: &Setup, version: Version) -> io::Re
 }
 
 /// Drives a machine to its end, and prints the deeds as long as there is room for so many bytes.
-fn print_deeds<W: Write>(
+fn print_deeds<W: Write, P: Print>(
     out: &mut W,
     alloc: Global,
     names: &Names,
     machine: &mut ClosedLoop,
     room: usize,
+    progress: &mut Progress<P>,
 ) -> io::Result<Ending> {
     let mut text = Vec::new(alloc);
     let mut left = room;
@@ -70,6 +73,7 @@ fn print_deeds<W: Write>(
         let Some(line) = machine.step() else {
             return Ok(Ending::of(machine));
         };
+        progress.count(machine);
         text.clear();
         print_deed(&mut text, names, moment_of(machine, &line), &line)?;
         let Some(less) = left.checked_sub(text.len()) else {

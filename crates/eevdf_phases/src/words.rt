@@ -29,6 +29,8 @@ pub(crate) enum Source {
 pub(crate) struct Asked {
     pub source: Source,
     pub output: Output,
+    /// Whether a terminal is told how far it is; no word says that.
+    pub is_watched: bool,
 }
 
 /// The flag behind which stands what is read.
@@ -69,6 +71,7 @@ pub(crate) fn asked_of(words: &[String]) -> Option<Asked> {
     Some(Asked {
         source: source.unwrap_or(Source::Phases),
         output: output.unwrap_or(Output::Script),
+        is_watched: false,
     })
 }
 
