@@ -8,31 +8,12 @@ ghost use Rattle.eevdf_fleet.specs.Fleets.{setup_of};
 
 use eevdf_fleet::Names;
 use eevdf_fleet::endless::{Fleet, Seat};
-use eevdf_ops::Answer;
 use eevdf_queue::TaskId;
 use std::sync::Wait;
 
-/// Picks a task, and where there is none pulls one and picks it.
-pub fn pick_or_pull<N: Names, R: Wait>(
-    rt: &R,
-    fleet: &Fleet<N>,
-    seat: &mut Seat<N>,
-) -> Option<TaskId>
-    ensures { seat.new.cpu ≡ seat.old.cpu }
-{
-    if let Answer::Picked(task) = fleet.pick(rt, seat) {
-        return Some(task);
-    }
-    let _found = find_work(rt, fleet, seat)?;
-    match fleet.pick(rt, seat) {
-        Answer::Picked(task) => Some(task),
-        _ => None,
-    }
-}
-
 /// Looks for work on the other CPUs. Where a CPU that has nothing to run finds none, no other one had two tasks when it was tried, but for
 /// those whose task couldn't be placed in range.
-fn find_work<N: Names, R: Wait>(rt: &R, fleet: &Fleet<N>, seat: &mut Seat<N>) -> Option<TaskId>
+pub fn find_work<N: Names, R: Wait>(rt: &R, fleet: &Fleet<N>, seat: &mut Seat<N>) -> Option<TaskId>
     ensures cpu { seat.new.cpu ≡ seat.old.cpu }
     ensures none { IfNone result (HasNothing (setup_of N.kit) seat.old
         → NoneWasCrowded (setup_of N.kit) seat.old seat.new) }

@@ -5,16 +5,14 @@ mod barrier;
 mod checked_input;
 mod finding_work;
 mod hundred_years;
-mod idle_flags;
 mod idle_pulls;
 mod machines;
 mod one_history;
 mod one_queue;
 mod own_order;
-mod park;
+mod parking;
 mod pool;
 mod shared_work;
-mod standstill;
 mod tickless;
 mod two_queues;
 mod two_threads;
@@ -22,12 +20,11 @@ mod two_threads;
 use crate::barrier::{cpus_with_a_task, met_with_history, met_without_history};
 use crate::checked_input::{Order, answers, two_cpus};
 use crate::hundred_years::first_day_out_of_range;
-use crate::idle_flags::{ends_beside_a_crowded, four_idle_cpus};
 use crate::idle_pulls::{three_at_one, until_end};
 use crate::one_history::tell_picks;
 use crate::one_queue::{add, one_queue};
 use crate::own_order::{last_first, pull_and_picks};
-use crate::park::{four_cpus, units_taken};
+use crate::parking::{four_cpus, units_served};
 use crate::pool::{four_pool_cpus, served};
 use crate::tickless::tickless;
 use crate::two_queues::pull;
@@ -41,21 +38,21 @@ use std::sync::{Mutex, Wait};
 use std::thread::Threads;
 use std::{env, io};
 
-/// How many wakes the CPUs with flags make.
-const WAKES: u64 = 20_000;
+/// How many units of work are put down for the tasks that park.
+const UNITS: u64 = 20_000;
 
 /// How many picks of all CPUs are told to another CPU.
 const PICKS_TOLD: u64 = 20_000;
 
 fn main(rt: HostRuntime) -> io::Result<()> {
-    match asked_wakes(&rt, rt.alloc()) {
-        Some(wakes) => show_idle_flags(&rt, wakes),
+    match asked_units(&rt, rt.alloc()) {
+        Some(units) => show_parking(&rt, units),
         None => show_all(&rt),
     }
 }
 
-/// The number of wakes that the program's word says, if it has one: then it shows the CPUs with flags alone, for so many wakes.
-fn asked_wakes(rt: &(impl Env + AllocGlobal), alloc: Global) -> Option<u64> {
+/// The number of units that the program's word says, if it has one: then it shows the tasks that park alone, with so many units.
+fn asked_units(rt: &(impl Env + AllocGlobal), alloc: Global) -> Option<u64> {
     let words: Result<Vec<String>, _> = env::args(rt).ok()?.collect(alloc);
     let words = words.ok()?;
     words.get(1)?.parse::<u64>().ok()
@@ -72,9 +69,8 @@ fn show_all(rt: &(impl Print + AllocGlobal + Threads + Wait + Sync)) -> io::Resu
     show_barrier(rt)?;
     show_idle_pulls(rt)?;
     show_barrier_without_history(rt)?;
-    show_idle_flags(rt, WAKES)?;
     show_one_history(rt)?;
-    show_park(rt)?;
+    show_parking(rt, UNITS)?;
     show_pool(rt)
 }
 
@@ -243,16 +239,6 @@ fn show_barrier_without_history(
     println!(rt; "{met} CPUs have met")
 }
 
-fn show_idle_flags(
-    rt: &(impl Print + AllocGlobal + Threads + Wait + Sync),
-    wakes: u64,
-) -> io::Result<()> {
-    println!(rt; "idle flags")?;
-    let setup = four_idle_cpus(rt.alloc()).map_err(|_| out_of_memory())?;
-    let ends = ends_beside_a_crowded(rt, rt.alloc(), &setup, wakes).map_err(no_run)?;
-    println!(rt; "{ends} times a CPU stayed parked beside a crowded one")
-}
-
 fn show_one_history(rt: &(impl Print + AllocGlobal + Threads + Wait + Sync)) -> io::Result<()> {
     println!(rt; "one history")?;
     let setup = three_at_one(rt.alloc()).map_err(|_| out_of_memory())?;
@@ -260,11 +246,23 @@ fn show_one_history(rt: &(impl Print + AllocGlobal + Threads + Wait + Sync)) -> 
     println!(rt; "{PICKS_TOLD} picks told to other CPUs")
 }
 
-fn show_park(rt: &(impl Print + AllocGlobal + Threads + Wait + Sync)) -> io::Result<()> {
-    println!(rt; "park")?;
+fn show_parking(
+    rt: &(impl Print + AllocGlobal + Threads + Wait + Sync),
+    units: u64,
+) -> io::Result<()> {
+    println!(rt; "parking")?;
     let setup = four_cpus(rt.alloc()).map_err(|_| out_of_memory())?;
-    let (taken, put) = units_taken(rt, rt.alloc(), &setup).map_err(no_run)?;
-    println!(rt; "{taken} of {put} units taken")
+    let count = units_served(rt, rt.alloc(), &setup, units).map_err(no_run)?;
+    println!(rt;
+        "{} times a CPU stayed parked beside a crowded one",
+        count.beside
+    )?;
+    println!(rt; "{} times a request stayed in a ring", count.left)?;
+    println!(rt; "{} of {units} units taken", count.taken)?;
+    println!(rt;
+        "{} of {} numbers are free or in use",
+        count.kept, count.numbers
+    )
 }
 
 fn show_pool(rt: &(impl Print + AllocGlobal + Threads + Wait + Sync)) -> io::Result<()> {
