@@ -6,8 +6,8 @@
 //! the rules, and says why nothing is lost by them. No contract does, since what the CPUs say and the tokens are the caller's.
 //!
 //! It is tested by the run: in each round the CPUs put units of work down for tasks, and unpark these or let them begin (`LiveTasks`). A
-//! task that has taken its unit works until the next round, and then takes another one, parks or ends. When all CPUs wait it is counted
-//! what is left undone (`rounds.rt`).
+//! task that has taken its unit works until the next round, and then parks or ends. When all CPUs wait it is counted what is left undone
+//! (`rounds.rt`).
 
 ghost use Rattle.std.specs.Prelude.{◌≡◌};
 

@@ -8,6 +8,9 @@ use std::sync::atomic::{AtomicU64, Ordering};
 /// What stands for a round when all is over.
 const OVER: u64 = u64::MAX;
 
+/// So many rounds for each unit are enough, unless wakes are lost.
+const MOST_ROUNDS: u64 = 8;
+
 #[derive(Drop)]
 pub struct Rounds {
     /// The round that has begun last, or `OVER`.
@@ -108,7 +111,8 @@ impl Rounds {
             self.left.fetch_add(1, Ordering::SeqCst);
         }
         let members = self.members.load(Ordering::SeqCst);
-        if most == 0 && self.units.load(Ordering::SeqCst) >= self.most_units {
+        let are_put = self.units.load(Ordering::SeqCst) >= self.most_units;
+        if most == 0 && are_put || self.round() / MOST_ROUNDS > self.most_units {
             self.round.store(OVER, Ordering::SeqCst);
             return members as usize;
         }

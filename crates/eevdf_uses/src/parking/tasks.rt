@@ -12,6 +12,9 @@ const EMPTY: u64 = 1;
 /// A unit lies there.
 const FULL: u64 = 2;
 
+/// The task hasn't taken a unit since it last parked. Rounds count from 1 on here.
+const NO_ROUND: u64 = 0;
+
 /// What the threads share of a number.
 #[derive(Drop)]
 struct Desk {
@@ -19,7 +22,7 @@ struct Desk {
     token: AtomicBool,
     /// `CLOSED`, `EMPTY` or `FULL`.
     unit: AtomicU64,
-    /// How many units were taken, and in which round the last one.
+    /// How many units were taken, and in which round the task works, or `NO_ROUND`.
     taken: AtomicU64,
     round: AtomicU64,
 }
@@ -39,7 +42,7 @@ impl Desks {
                 token: AtomicBool::new(false),
                 unit: AtomicU64::new(CLOSED),
                 taken: AtomicU64::new(0),
-                round: AtomicU64::new(0),
+                round: AtomicU64::new(NO_ROUND),
             })?;
         }
         Ok(Desks { desks })
@@ -57,16 +60,22 @@ impl Desks {
         self.changes(task, EMPTY, FULL)
     }
 
-    /// Whether the task works in this round: it takes its unit by this, or has taken one in this round.
+    /// Whether the task works in this round: it takes its unit by this, or has taken one in this round. One that has worked in an earlier
+    /// round doesn't look for another unit before it has parked: the wake for that has come, or comes.
     pub fn works(&self, task: TaskId, round: u64) -> bool {
         let Some(desk) = self.desks.get(task.index()) else {
             return false;
         };
-        if self.changes(task, FULL, EMPTY) {
+        let before = desk.round.load(Ordering::SeqCst);
+        if before == NO_ROUND && self.changes(task, FULL, EMPTY) {
             desk.taken.fetch_add(1, Ordering::SeqCst);
             desk.round.store(round, Ordering::SeqCst);
+            return true;
         }
-        desk.round.load(Ordering::SeqCst) == round
+        if before != round {
+            desk.round.store(NO_ROUND, Ordering::SeqCst);
+        }
+        before == round
     }
 
     /// Whether the task ends: it has taken every fourth unit, and gets no other one then. Where one lies there it doesn't end.
