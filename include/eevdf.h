@@ -68,9 +68,9 @@
  * WHAT THE OBJECT ASKS OF A KERNEL (x86-64). The archive for kernels, libeevdf_kernel.a, uses no
  * registers but the general ones and nothing below the stack pointer, and needs no aligned stack.
  * So interrupts may come during a call, and on its stack. It can be linked at any address, and its
- * code is in the section .text. Each call begins with endbr64. It wants the name memset, and where
- * it is made for Linux __x86_return_thunk, by which it returns then, and no others. Of the two
- * functions for memory (below) it has weak ones, which give none, until the kernel defines its own.
+ * code is in the section .text. Each call begins with endbr64. It wants the names memset,
+ * eevdf_alloc and eevdf_dealloc (below), and where it is made for Linux __x86_return_thunk, by
+ * which it returns then, and no others.
  * The archive for programs, libeevdf.a, can be linked at any address, and wants memset,
  * eevdf_alloc, eevdf_dealloc, and __udivti3, which compilers bring along in libgcc. It needs a
  * stack that is aligned to 16 at the call, and uses the registers xmm0 and xmm1, and functions that
@@ -290,8 +290,9 @@ typedef struct eevdf_memory {
  * eevdf_close, eevdf_hand_close, and the first two where they answer RANGE. They are called under
  * whatever lock the caller of these holds, of eevdf_hand_close perhaps none, and where there are
  * several queues, on several CPUs at once: what they share needs a lock of its own.
- * Where a kernel defines neither, the archive for kernels has none to give, and eevdf_admit answers
- * NO_MEMORY; over the archive for programs the linker says that they are missing.
+ * They come from an object or an archive; where nobody defines them the linker says that they are
+ * missing. Who makes none of these calls takes two that give none, from libeevdf_no_memory.a or, in
+ * a kernel, libeevdf_kernel_no_memory.a.
  */
 eevdf_memory eevdf_alloc(size_t size, size_t align);
 void eevdf_dealloc(void *block);

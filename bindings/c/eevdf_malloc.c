@@ -1,6 +1,7 @@
 /*
- * The two functions for memory of eevdf.h over malloc and free. They are weak: a program that
- * defines them itself has its own.
+ * The two functions for memory of eevdf.h over malloc and free. They stand in an archive of their own
+ * behind that of the library, and are weak: a program has its own by an object wherever it stands,
+ * or by an archive in front of this one.
  */
 #include <eevdf.h>
 #include <stdlib.h>

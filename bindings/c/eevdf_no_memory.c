@@ -1,6 +1,7 @@
 /*
- * The two functions for memory in a kernel that defines neither: there is no memory. They are weak,
- * so a kernel's own take their place, wherever the linker meets them.
+ * The two functions for memory of a program or a kernel that makes no call that asks for any: there
+ * is none. They stand in an archive of their own, or are compiled with the kernel. They are weak, so
+ * those of another object take their place, wherever the linker meets it.
  */
 #include <eevdf.h>
 

@@ -16,10 +16,13 @@ fn main() {
         tell_of_missing(name);
     }
     link(&folder, name);
-    if !has_feature("KERNEL") {
-        // the names that the library asks memory by; the crate makes no call that does
-        link(&folder, if has_feature("MALLOC") { "eevdf_malloc" } else { "eevdf_no_memory" });
-    }
+    // the names that the library asks memory by; the crate makes no call that does
+    let memory = match (has_feature("KERNEL"), has_feature("MALLOC")) {
+        (true, _) => "eevdf_kernel_no_memory",
+        (false, true) => "eevdf_malloc",
+        (false, false) => "eevdf_no_memory",
+    };
+    link(&folder, memory);
 }
 
 fn has_feature(name: &str) -> bool {

@@ -26,7 +26,7 @@ REGISTER = re.compile(r"(?<![\w#])([vqdshb](?:[12]?\d|3[01])|[xw]18)\b(?! <|:)")
 # Distances alone, as Linux's loader of modules and any linker knows them.
 OTHER_RELOCATIONS = re.compile(r"^(?!R_AARCH64_(?:ADR_PREL_PG_HI21|ADD_ABS_LO12_NC|CALL26|JUMP26)$)")
 OF_PROGRAMS = Asks(object_file.OF_PROGRAMS.names, {"q0", "q1", "q2", "q3", "d0", "d1", "v0"}, object_file.ABSOLUTE, REGISTER)
-OF_KERNELS = Asks({"memset"}, set(), OTHER_RELOCATIONS, REGISTER)
+OF_KERNELS = Asks(kernel_object.OF_KERNELS.names, set(), OTHER_RELOCATIONS, REGISTER)
 WRITTEN = kernel_object.Written(re.compile(r"\[sp, #-\d+\](?!!)"), re.compile(r"^(?:br|blr)\b"), "bti c", "brk")
 
 
@@ -64,7 +64,8 @@ def check_kernel(tools):
     source, given = tools.work / "given.c", tools.work / "given.o"
     source.write_text(linked.MEMSET)
     fault = fault_of(run([COMPILER, *linked.BARE, "-c", "-o", given, source]))
-    words = linked.link_words(f"{BINUTILS}ld", tools.callers / "kernel.ld", tools.work / "linked.elf", given, tools.archive)
+    archives = (tools.archive, tools.no_memory)
+    words = linked.link_words(f"{BINUTILS}ld", tools.callers / "kernel.ld", tools.work / "linked.elf", given, *archives)
     tools.checks.look("linked into a kernel on aarch64", fault or fault_of(run(words)))
 
 

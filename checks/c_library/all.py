@@ -17,6 +17,7 @@ import kernel_object
 import linked
 import linux
 import loops
+import memory_in_rust
 import memory_names
 import object_file
 import rust
@@ -28,7 +29,7 @@ from tools import TOP, Tools, fault_of, run, runner
 C_ARCHIVES = TOP / "tools" / "c_archives"
 sys.path.append(str(C_ARCHIVES))
 
-from kernel_archive import ARM_KERNEL, KERNEL, LINUX, NotMade, kit_tools, make  # noqa: E402
+from kernel_archive import ARM_KERNEL, KERNEL, LINUX, NotMade, kit_tools, make, make_no_memory  # noqa: E402
 from kept_module import KeptModule  # noqa: E402
 
 
@@ -47,6 +48,7 @@ def made_of(module, work):
     tools = Tools(work / "libeevdf_kernel.a", work, module, work / "libeevdf_thunks.a", work / "for_programs.a")
     kept = KeptModule.read(module)
     make(kit_tools(), kept, tools.archive, KERNEL)
+    make_no_memory(kit_tools(), kept, tools.no_memory, KERNEL)
     make(kit_tools(), kept, tools.thunks, LINUX)
     make(kit_tools(), kept, tools.for_programs, replace(KERNEL, sources=()))
     return tools
@@ -55,7 +57,9 @@ def made_of(module, work):
 def check_aarch64(folder, work, seed):
     """Looks at what is made for ARM, and gives the count."""
     tools = aarch64.ArmTools(work / "libeevdf_kernel.a", work, folder / "module")
-    make(kit_tools(), KeptModule.read(tools.module), tools.archive, ARM_KERNEL)
+    kept = KeptModule.read(tools.module)
+    make(kit_tools(), kept, tools.archive, ARM_KERNEL)
+    make_no_memory(kit_tools(), kept, tools.no_memory, ARM_KERNEL)
     aarch64.check(tools, folder / "libeevdf_c.a", seed)
     return tools.checks.end()
 
@@ -82,7 +86,8 @@ def main():
     except (NotMade, FileNotFoundError) as failed:
         print(f"checks/c_library: there is no archive to look at: {failed}", file=sys.stderr)
         sys.exit(3)
-    for part in (header, kernel_object if asked.module else object_file, callers, examples, installed, memory_names, rust, kernel):
+    for part in (header, kernel_object if asked.module else object_file, callers, examples, installed, memory_names, memory_in_rust, rust,
+                 kernel):
         look(tools, part)
     look(tools, sequences, asked.seed)
     look(tools, loops, asked.seed)

@@ -44,7 +44,7 @@ __wrap_{name}:
 	ret
 """
 # The functions for memory are the C compiler's, which wants an aligned stack; and they aren't interrupted. The caller has them by another
-# name, since the archive for kernels has weak ones, which the linker wraps nothing around.
+# name.
 OWN = """
 	.globl {name}
 {name}:

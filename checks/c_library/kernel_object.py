@@ -18,7 +18,7 @@ from kept_module import KeptModule  # noqa: E402
 
 # Distances alone, so that it can lie anywhere, as Linux's loader of modules and any linker knows them.
 OTHER_RELOCATIONS = re.compile(r"^(?!R_X86_64_(?:PC32|PLT32)$)")
-OF_KERNELS = Asks({"memset"}, set(), OTHER_RELOCATIONS)
+OF_KERNELS = Asks({"memset", *object_file.MEMORY}, set(), OTHER_RELOCATIONS)
 OF_LINUX = Asks({*OF_KERNELS.names, "__x86_return_thunk"}, set(), OTHER_RELOCATIONS)
 
 # An instruction with its operands.

@@ -39,10 +39,10 @@ def check_programs(tools):
         tools.checks.look(f"callers/errors.c, linked {name}", fault or fault_of(run([program])))
 
 
-def link_words(linker, script, made, given, archive):
-    """The words by which all of an archive is linked into a kernel."""
+def link_words(linker, script, made, given, *archives):
+    """The words by which all of some archives is linked into a kernel."""
     return [linker, "--orphan-handling=error", "-z", "noexecstack", "-e", "0", "-T", script, "-o", made, given,
-            "--whole-archive", archive, "--no-whole-archive"]
+            "--whole-archive", *archives, "--no-whole-archive"]
 
 
 def check_kernels(tools):
@@ -54,7 +54,7 @@ def check_kernels(tools):
             tools.checks.skip(f"linked into a kernel by {linker}", linker, "binutils" if linker == "ld" else "lld")
             continue
         for name, archive in (("", tools.archive), (", with thunks", tools.thunks)):
-            words = link_words(linker, tools.callers / "kernel.ld", tools.work / "linked.elf", given, archive)
+            words = link_words(linker, tools.callers / "kernel.ld", tools.work / "linked.elf", given, archive, tools.no_memory)
             tools.checks.look(f"linked into a kernel by {linker}{name}", fault or fault_of(run(words)))
 
 

@@ -49,6 +49,11 @@ class Tools:
         self.work = Path(self.work)
         self.cc = shutil.which("gcc") or shutil.which("clang")
 
+    @property
+    def no_memory(self):
+        """Beside the archive for kernels, that of the two functions for memory that give none."""
+        return self.archive.with_name("libeevdf_kernel_no_memory.a")
+
     def compile(self, name, sources, *flags, libraries=None):
         """Builds a program of C11 over the library. Gives its path and what is wrong."""
         program = self.work / name

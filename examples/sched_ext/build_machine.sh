@@ -41,7 +41,7 @@ quietly() {
 MODULE=$module quietly "the library" "$top/install" --kernel --thunks "$work/prefix"
 mkdir "$work/module"
 cp "$here"/Kbuild "$here"/{common,calls,tasks,numbers,queues,scheduler}.h \
-  "$here"/{module,scheduler,forks,pulls,moves,queues,numbers,tasks,calls}.c "$work/module"
+  "$here"/{module,scheduler,forks,pulls,moves,queues,numbers,tasks,calls}.c "$top/bindings/c/eevdf_no_memory.c" "$work/module"
 cp "$here/../linux/Kbuild" "$work/module/Kbuild.linux"
 quietly "the module" make -C "$tree" M="$work/module" PREFIX="$work/prefix" modules
 for name in scheduler plain; do

@@ -1,8 +1,9 @@
 #!/usr/bin/env -S python3 -B
-"""kernel_archive.py [--thunks] MODULE ARCHIVE: makes the archive for kernels from the kept LLVM module of the library for C, by the kit's
-own clang and the words that it was given for the archive for programs, with the attributes and flags besides that docs/embedding-c.md
-lists for the module's processor. To the module it joins the functions for memory that a kernel may leave out or have by either name, as
-bindings/c has them. Ends with 3 where there is no module, no kit, or a module that isn't understood."""
+"""kernel_archive.py [--thunks] MODULE ARCHIVE [NO_MEMORY]: makes the archive for kernels from the kept LLVM module of the library for C, by
+the kit's own clang and the words that it was given for the archive for programs, with the attributes and flags besides that
+docs/embedding-c.md lists for the module's processor. To the module it joins the names by which a kernel has its functions for memory, as
+bindings/c has them; and for a kernel that has no memory it makes an archive NO_MEMORY of two functions that give none. Ends with 3 where
+there is no module, no kit, or a module that isn't understood."""
 
 import argparse
 import re
@@ -35,7 +36,8 @@ ONE_SECTION = (
     "-fno-addrsig",  # no section that such a script doesn't name
 )
 DIVISION = ("-mllvm", "-expand-div-rem-bits=64")  # the division of 128 bits in the code, so no __udivti3
-SOURCES = ("eevdf_names.c", "eevdf_no_memory.c")
+SOURCES = ("eevdf_names.c",)
+NO_MEMORY = "eevdf_no_memory.c"
 KERNEL = Variant(
     ("noredzone",),  # nothing below the stack pointer
     "x86-64",  # for each processor of 64 bits
@@ -114,11 +116,11 @@ def compile_words(kept):
     return words
 
 
-def compile_source(tools, kept, variant, source, made):
-    """The module of a C file of bindings/c, by flags that come to those of the library's."""
+def compile_source(tools, kept, variant, source, made, *more):
+    """The object of a C file of bindings/c, or its module, by flags that come to those of the library's."""
     target = [word for word in kept.words if word.startswith(("--target=", "-march="))]
     flags = [*target, *BARE, *variant.flags, *(IN_C[name] for name in variant.attributes if name in IN_C)]
-    run(tools / "clang", *flags, f"-I{TOP / 'include'}", "-c", "-emit-llvm", "-o", made, TOP / "bindings" / "c" / source)
+    run(tools / "clang", *flags, f"-I{TOP / 'include'}", "-c", *more, "-o", made, TOP / "bindings" / "c" / source)
 
 
 def compile_module(tools, kept, variant, made):
@@ -130,7 +132,7 @@ def compile_module(tools, kept, variant, made):
     text.write_text(with_attributes(text.read_text(), variant))
     for source in variant.sources:
         module = made.with_name(source).with_suffix(".bc")
-        compile_source(tools, kept, variant, source, module)
+        compile_source(tools, kept, variant, source, module, "-emit-llvm")
         joined += ["-Xclang", "-mlink-bitcode-file", "-Xclang", module]
     run(tools / "clang", *words, *variant.flags, *joined, "-c", "-x", "ir", "-o", made, text)
 
@@ -145,13 +147,25 @@ def kernel_variant(kept, has_thunks):
     return LINUX if has_thunks else variant
 
 
+def pack(tools, archive, made):
+    archive.unlink(missing_ok=True)
+    run(tools / "llvm-ar", "rcsD", archive, made)
+
+
 def make(tools, kept, archive, variant):
     """Makes an archive of one object."""
     with tempfile.TemporaryDirectory() as held:
         made = Path(held) / OBJECT
         compile_module(tools, kept, variant, made)
-        archive.unlink(missing_ok=True)
-        run(tools / "llvm-ar", "rcsD", archive, made)
+        pack(tools, archive, made)
+
+
+def make_no_memory(tools, kept, archive, variant):
+    """Makes the archive of the two functions for memory that give none."""
+    with tempfile.TemporaryDirectory() as held:
+        made = (Path(held) / NO_MEMORY).with_suffix(".o")
+        compile_source(tools, kept, variant, NO_MEMORY, made)
+        pack(tools, archive, made)
 
 
 def kit_tools():
@@ -168,10 +182,14 @@ def main():
     words.add_argument("--thunks", action="store_true")
     words.add_argument("module", type=Path)
     words.add_argument("archive", type=Path)
+    words.add_argument("no_memory", type=Path, nargs="?")
     asked = words.parse_args()
     try:
-        kept = KeptModule.read(asked.module)
-        make(kit_tools(), kept, asked.archive, kernel_variant(kept, asked.thunks))
+        tools, kept = kit_tools(), KeptModule.read(asked.module)
+        variant = kernel_variant(kept, asked.thunks)
+        make(tools, kept, asked.archive, variant)
+        if asked.no_memory:
+            make_no_memory(tools, kept, asked.no_memory, variant)
     except (NotMade, FileNotFoundError) as failed:
         print(f"{Path(__file__).name}: {failed}", file=sys.stderr)
         sys.exit(3)

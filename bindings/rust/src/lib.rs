@@ -29,7 +29,7 @@
 //!
 //! The library for C has calls that ask for memory by the names `eevdf_alloc` and `eevdf_dealloc`. The crate makes none of them, so nothing
 //! depends on what a program calls so. With the feature `malloc` the two are over C's `malloc` and `free`, for C in the same program; else
-//! they give none.
+//! they give none. C's own take their place as an object, as functions of Rust's, or in an archive that is linked as a whole.
 //!
 //! # In a kernel
 //!
