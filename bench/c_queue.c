@@ -234,13 +234,15 @@ int main(int count, char **words)
 	} else if (strcmp(words[1], "pull-take-put") == 0) {
 		eevdf_open(&other);
 		eevdf_hand_open(&hand);
-		for (; turns > 0; turns--)
+		do
 			pull_take_put();
+		while (--turns > 0);
 	} else if (strcmp(words[1], "pull-take-renumber-put") == 0) {
 		eevdf_open(&other);
 		eevdf_hand_open(&hand);
-		for (; turns > 0; turns--)
+		do
 			pull_take_renumber_put();
+		while (--turns > 0);
 	} else {
 		for (uint64_t at = 0; at < tasks / 8; at++)
 			sleep_pick();

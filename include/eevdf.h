@@ -72,9 +72,10 @@
  * eevdf_alloc and eevdf_dealloc (below), and where it is made for Linux __x86_return_thunk, by
  * which it returns then, and no others.
  * The archive for programs, libeevdf.a, can be linked at any address, and wants memset,
- * eevdf_alloc, eevdf_dealloc, and __udivti3, which compilers bring along in libgcc. It needs a
- * stack that is aligned to 16 at the call, and uses the registers xmm0 and xmm1, and functions that
- * call no others use the red zone, the 128 bytes below the stack pointer. So in a kernel
+ * eevdf_alloc, eevdf_dealloc, and __udivti3, which compilers bring along in libgcc. Each call
+ * begins with endbr64, and the objects have the marks for IBT and SHSTK. It needs a stack that is
+ * aligned to 16 at the call, and uses the registers xmm0 and xmm1, and functions that call no
+ * others use the red zone, the 128 bytes below the stack pointer. So in a kernel
  *   - a maskable interrupt that comes during a call runs on another stack (an entry of the
  *     interrupt stack table, IST), or interrupts are off during the call;
  *   - NMIs, machine checks, and exceptions whose handler returns have a stack of their own by the

@@ -10,6 +10,7 @@ import callers
 import kernel_object
 import linked
 import object_file
+import protected
 import sequences
 from drawn_calls import KINDS
 from examples import FIRST, other_output
@@ -107,6 +108,7 @@ def check(tools, archive, seed):
     check_objects(tools, archive)
     check_kernel(tools)
     check_installed(tools, archive)
+    protected.check(tools, protected.OF_ARM, "installed")
     for name in ("errors", "dozes", "memory", "moved", "blocks", "fair", "stack"):
         callers.check_one(tools, name, "on aarch64")
     for (name, _), compared in sequences.all_compared(list(jobs_of(tools, archive, seed))):

@@ -20,6 +20,7 @@ import loops
 import memory_in_rust
 import memory_names
 import object_file
+import protected
 import rust
 import sched_ext
 import sequences
@@ -96,6 +97,8 @@ def main():
         look(tools, interrupted, asked.seed)
         for part in (linux, simulated, sched_ext):
             look(tools, part)
+    else:
+        look(tools, protected)
     sys.exit(tools.checks.end())
 
 

@@ -118,7 +118,7 @@ def for_programs(tools):
 
 
 def look_at_module(tools, variant=kernel_archive.PROGRAMS):
-    """Compiled without the attributes and flags for kernels, the kept module is the object of the archive for programs, byte for byte."""
+    """Compiled for programs the kept module is the object of their archive, byte for byte."""
     again, other = tools.work / "again.a", for_programs(tools)
     kernel_archive.make(kernel_archive.kit_tools(), KeptModule.read(tools.module), again, variant)
     same = object_of(again) == object_of(other)

@@ -10,6 +10,8 @@ from dataclasses import dataclass
 from pathlib import Path
 
 from kept_module import keeping_toolchain
+from kernel_archive import NotMade
+from protected_object import protect
 
 TOP = Path(__file__).resolve().parents[2]
 sys.path += [str(TOP / "tools"), str(TOP / "checks" / "wrong_bodies")]
@@ -47,6 +49,15 @@ class Place:
         words += ["--toolchain", toolchain, "--backend", "llvm", "-o", out / MADE[0]]
         return subprocess.run(words, cwd=folder, **more).returncode
 
+    def protect(self, archive, more):
+        """Has an archive keep the marks of a program whose control flow is protected. Gives the status."""
+        try:
+            protect(kit() / "toolchain" / "bin", archive, archive.parent / "module")
+        except NotMade as failed:
+            print(failed, file=more["stdout"])
+            return 3
+        return 0
+
     def add_names(self, target, archive, more):
         """Has an archive ask for memory by the header's names. The kit's clang compiles for what the name says by which it is called."""
         tools = kit() / "toolchain" / "bin"
@@ -65,7 +76,8 @@ def build_archive(copy, out, said=None):
         place = Place(copy, Path(held))
         place.checked.mkdir()
         for target, folder in TARGETS.items():
-            status = place.compile(target, out / folder, more) or place.add_names(target, out / folder / MADE[0], more)
+            archive = out / folder / MADE[0]
+            status = place.compile(target, archive.parent, more) or place.protect(archive, more) or place.add_names(target, archive, more)
             if status:
                 return status
     return 0

@@ -19,17 +19,19 @@ from kept_module import KeptModule
 @dataclass(frozen=True)
 class Variant:
     """What one of the archives is made by: attributes of each function that the module defines, the processor that these name and the one
-    that they name in the module, flags that come to those of the module, and the C files whose functions are joined to it."""
+    that they name in the module, flags that come to those of the module, the C files whose functions are joined to it, and marks of the
+    module, by which its object says how its control flow is protected."""
 
     attributes: tuple
     processor: str
     module_processor: str
     flags: tuple = ()
     sources: tuple = ()
+    marks: tuple = ()
 
 
 PROCESSOR = "x86-64-v2"
-PROGRAMS = Variant((), PROCESSOR, PROCESSOR)
+PROGRAMS = Variant((), PROCESSOR, PROCESSOR, marks=("cf-protection-branch", "cf-protection-return"))
 # What is the same for each processor.
 ONE_SECTION = (
     "-fno-function-sections", "-fno-data-sections",  # all code in .text, as a kernel's linker script takes it
@@ -53,18 +55,20 @@ KERNEL = Variant(
 LINUX = replace(KERNEL, attributes=(*KERNEL.attributes, "fn_ret_thunk_extern"))  # returns by __x86_return_thunk
 
 ARM_PROCESSOR = "generic"
-ARM_PROGRAMS = Variant((), ARM_PROCESSOR, ARM_PROCESSOR)
+BTI = '"branch-target-enforcement"'  # bti where a call may come through a pointer
+ARM_PROGRAMS = Variant((BTI,), ARM_PROCESSOR, ARM_PROCESSOR, marks=(BTI.strip('"'),))
 ARM_KERNEL = Variant(
     (
         '"target-features"="-fp-armv8,-neon,+reserve-x18"',  # no registers but the general ones, and of these not Linux's own
-        '"branch-target-enforcement"',  # bti where a call may come through a pointer
+        BTI,
     ),
     ARM_PROCESSOR,
     ARM_PROCESSOR,
     ("-mgeneral-regs-only", *ONE_SECTION, *DIVISION),
     SOURCES,
 )
-# The archive for kernels by what a module is compiled for.
+# The archives by what a module is compiled for.
+ALL_PROGRAMS = {"x86_64-unknown-linux-gnu": PROGRAMS, "aarch64-unknown-linux-gnu": ARM_PROGRAMS}
 KERNELS = {"x86_64-unknown-linux-gnu": KERNEL, "aarch64-unknown-linux-gnu": ARM_KERNEL}
 
 # What the attributes are called where clang is given C, and how it compiles C for a place without an operating system. By the one that is
@@ -80,6 +84,8 @@ BARE = ("-std=c11", "-O3", "-fPIC", "-Wall", "-Wextra", "-Werror", "-ffreestandi
 TOP = Path(__file__).resolve().parents[2]
 OBJECT = "eevdf_kernel.o"
 DEFINITION = re.compile(r"^define .*?(?: #(\d+))? \{$", re.MULTILINE)
+NUMBERED = re.compile(r"^!(\d+) = ", re.MULTILINE)
+MODULE_FLAGS = re.compile(r"^!llvm\.module\.flags = !\{(.+)\}\n", re.MULTILINE)
 
 
 class NotMade(Exception):
@@ -96,6 +102,15 @@ def with_attributes(text, variant):
             raise NotMade(f"the module has a function of other attributes than for {variant.module_processor}")
         text = text[: head.end()] + "".join(f"{name} " for name in variant.attributes) + text[head.end() :]
     return text.replace(named, f'"target-cpu"="{variant.processor}"')
+
+
+def with_marks(text, variant):
+    """The same module with the marks of a variant, beside the flags that it has. Of two modules that are joined the lower number holds."""
+    first = 1 + max(map(int, NUMBERED.findall(text)), default=-1)
+    marks = {f"!{number}": mark for number, mark in enumerate(variant.marks, first)}
+    flags = ", ".join((*MODULE_FLAGS.findall(text), *marks))
+    lines = [f'{number} = !{{i32 8, !"{mark}", i32 1}}' for number, mark in marks.items()]
+    return "\n".join((MODULE_FLAGS.sub("", text), f"!llvm.module.flags = !{{{flags}}}", *lines, ""))
 
 
 def run(*words):
@@ -129,7 +144,7 @@ def compile_module(tools, kept, variant, made):
     isn't linked of several."""
     words, text, joined = compile_words(kept), made.with_suffix(".ll"), []
     run(tools / "clang", *words, "-x", "ir", "-S", "-emit-llvm", "-Xclang", "-disable-llvm-passes", "-o", text, kept.module)
-    text.write_text(with_attributes(text.read_text(), variant))
+    text.write_text(with_marks(with_attributes(text.read_text(), variant), variant))
     for source in variant.sources:
         module = made.with_name(source).with_suffix(".bc")
         compile_source(tools, kept, variant, source, module, "-emit-llvm")
