@@ -4,7 +4,7 @@ use Rattle.std.proofs.lemmas.List.{append-nil, append_assoc, length-append, leng
 use Rattle.std.proofs.Math.Path.{refl}
 use Rattle.std.proofs.Math.Seq.{map-set_same}
 use Rattle.eevdf_free_tasks.specs.Slots.{given_back}
-use Rattle.eevdf_free_tasks.specs.Parts.{all_given_back, appended, concatenated, HasCome, HaveCome}
+use Rattle.eevdf_free_tasks.specs.Parts.{all_given_back, appended, AreEmpty, concatenated, HasCome, HaveCome}
 use Rattle.eevdf_free_tasks.specs.declared.slot.Slot.{Slot}
 
 given-append : (own : List Slot) (xs ys : List ℕ) → all_given_back own (xs ++ ys) ≡ all_given_back (all_given_back own xs) ys
@@ -58,6 +58,32 @@ have-more {k = k} {before = before} {now = now} {own = own} after have within co
   own_is = come.own_is ∙ ap (λ (o : List Slot). all_given_back o come.came) have.own_is
       ∙ sym (given-append own (concatenated have.came) come.came) ∙ ap (all_given_back own) (sym (concatenated-more have.came come.came));
 }
+
+-- the rings of the first so many senders are empty, and then that of one sender more
+empty-more : (lists : List (List ℕ)) (k : ℕ) → ((place : ℕ) → place < k → get_or lists place [] ≡ []) → (place : ℕ) → place < k + 1 → get_or (set lists k []) place [] ≡ []
+empty-more [] k empty place within = refl
+empty-more (l ∷ lists) zero empty zero within = refl
+empty-more (l ∷ lists) zero empty (suc place) within = let no : ⊥ = omega (arith, within) in absurd no
+empty-more (l ∷ lists) (suc k) empty zero within = empty zero (omega arith)
+empty-more (l ∷ lists) (suc k) empty (suc place) within = empty-more lists k (λ p less. empty (suc p) (omega (arith, less))) place (omega (arith, within))
+
+pub ends-empty-more : {C : Type 0} (f : C → List ℕ) (k : ℕ) (ends : List C) (after : C) → ((place : ℕ) → place < k → get_or (map f ends) place [] ≡ []) → f after ≡ []
+    → (place : ℕ) → place < k + 1 → get_or (map f (set ends k after)) place [] ≡ []
+ends-empty-more f k ends after empty none place within =
+    ap (λ (ls : List (List ℕ)). get_or ls place []) (map-set f ends k after ∙ ap (λ (l : List ℕ). set (map f ends) k l) none) ∙ empty-more (map f ends) k empty place within
+
+-- and those of all
+pub are-empty : (lists : List (List ℕ)) (n : ℕ) → n ≡ length lists → ((place : ℕ) → place < n → get_or lists place [] ≡ []) → AreEmpty lists
+are-empty [] n is empty place = refl
+are-empty (l ∷ lists) n is empty zero = empty zero (omega (arith, is))
+are-empty (l ∷ lists) n is empty (suc place) = are-empty lists (length lists) refl (λ p less. empty (suc p) (omega (arith, is, less))) place
+
+-- and of one sender more, through which nothing has come yet
+pub empty-push : (lists : List (List ℕ)) → AreEmpty lists → AreEmpty (lists ++ [] ∷ [])
+empty-push [] empty zero = refl
+empty-push [] empty (suc place) = refl
+empty-push (l ∷ lists) empty zero = empty zero
+empty-push (l ∷ lists) empty (suc place) = empty-push lists (λ p. empty (suc p)) place
 
 -- the same where the lists are those of ends
 pub ends-more : {C : Type 0} (f : C → List ℕ) (k : ℕ) (before : List (List ℕ)) (ends : List C) {own own_now own_after : List Slot} (end after : C) → end ≡ get_or ends k end

@@ -1,5 +1,5 @@
 -- How many ends of rings the parts have, ring by ring.
-use Rattle.std.proofs.Common.{◌≡◌, ◌≢◌, ℕ, ◌+◌, ◌-◌, ◌<◌, ◌≤◌, List, [], ◌∷◌, ◌++◌, length, get_or, set, ap, sym, subst, ◌∙◌, arith, Bool, true, false, ◌==◌}
+use Rattle.std.proofs.Common.{◌≡◌, ◌≢◌, ℕ, ◌+◌, ◌-◌, ◌<◌, List, [], ◌∷◌, ◌++◌, length, get_or, set, ap, sym, subst, ◌∙◌, arith, Bool, true, false, ◌==◌}
 use Rattle.std.proofs.Math.Path.{refl}
 use Rattle.std.proofs.lemmas.List.{length-append, length-set, get_or_append_left, get_or-append_right, get_or-set_same, get_or-set_other}
 use Rattle.std.proofs.lemmas.Bool.{eqb-true, eqb-false}
@@ -79,7 +79,7 @@ sends-apart {cpus = cpus} {home = home} {sender = sender} {senders = senders} k 
 
 -- the home has an end from the next sender
 receives-one : {cpus home sender : ℕ} (parts : List Part) (to with_end : Part) → OfEach (IsReceiving cpus home sender) parts → home < length parts → to ≡ get_or parts home to
-    → with_end ≡ record to { received = to.received ++ [] ∷ [] } → OfEach (IsReceiving cpus home (sender + 1)) (set parts home with_end)
+    → with_end ≡ record to { received = to.received ++ [] ∷ []; waiting = to.waiting ++ [] ∷ [] } → OfEach (IsReceiving cpus home (sender + 1)) (set parts home with_end)
 receives-one {cpus = cpus} {home = home} {sender = sender} parts to with_end each within at is =
     let before = each home to within (sym at) in
     let long : length with_end.received ≡ sender + 1 = ap (λ (p : Part). length p.received) is ∙ length-append to.received ([] ∷ []) ∙ ap (λ n. n + 1) (before.here refl) in
@@ -92,7 +92,7 @@ receives-one {cpus = cpus} {home = home} {sender = sender} parts to with_end eac
 
 -- it sends as before
 receives-apart : {home senders : ℕ} (parts : List Part) (to with_end : Part) → OfEach (IsSending home senders) parts → home < length parts → to ≡ get_or parts home to
-    → with_end ≡ record to { received = to.received ++ [] ∷ [] } → OfEach (IsSending home senders) (set parts home with_end)
+    → with_end ≡ record to { received = to.received ++ [] ∷ []; waiting = to.waiting ++ [] ∷ [] } → OfEach (IsSending home senders) (set parts home with_end)
 receives-apart {home = home} {senders = senders} parts to with_end each within at is =
     let before = each home to within (sym at) in
     let same : length with_end.sent ≡ length to.sent = ap (λ (p : Part). length p.sent) is in
@@ -103,7 +103,7 @@ receives-apart {home = home} {senders = senders} parts to with_end each within a
 -- both ends of a ring are given
 pub joined-more : {cpus : ℕ} {parts : List Part} (sender home k : ℕ) (from with_end to with_ends : Part) → AreJoined cpus home sender parts → sender < length parts → home < length parts
     → from ≡ get_or parts sender from → with_end ≡ record from { sent = from.sent ++ [] ∷ []; free = from.free ++ k ∷ [] }
-    → to ≡ get_or (set parts sender with_end) home to → with_ends ≡ record to { received = to.received ++ [] ∷ [] }
+    → to ≡ get_or (set parts sender with_end) home to → with_ends ≡ record to { received = to.received ++ [] ∷ []; waiting = to.waiting ++ [] ∷ [] }
     → AreJoined cpus home (sender + 1) (set (set parts sender with_end) home with_ends)
 joined-more {parts = parts} sender home k from with_end to with_ends joined sends receives at sending at_home receiving =
     let inside : home < length (set parts sender with_end) = omega (arith, receives, length-set parts sender with_end) in record {

@@ -5,24 +5,25 @@ use Rattle.std.proofs.lemmas.List.{length-append, length-set, get_or_append_left
 use Rattle.std.proofs.lemmas.Bool.{eqb-true, eqb-false}
 use Rattle.std.proofs.lemmas.List.Elements.{All-push}
 use Rattle.eevdf_ops.specs.Setup.{Setup}
+use Rattle.eevdf_free_tasks.proofs.Comings.{empty-push}
 use Rattle.eevdf_free_tasks.specs.Slots.{slot_of, with_taken, NoneFree}
-use Rattle.eevdf_free_tasks.specs.Parts.{AreFresh, HasTaken, HaveCome, IsFresh, Part}
+use Rattle.eevdf_free_tasks.specs.Parts.{AreEmpty, AreFresh, HasTaken, HaveCome, IsFresh, Part}
 use Rattle.eevdf_free_tasks.specs.declared.slot.Slot.{Slot}
 use Rattle.eevdf_free_tasks.specs.declared.slot.Slot.TheVariants.{Free}
 
 -- a number is taken, at once or after what came from all senders
-pub taken-after : {n : ℕ} (before : Part) {received : List (List ℕ)} {now own_before : List Slot} (own : List Slot) (result : Option ℕ)
-    → (n ≡ 0) ⊎ (NoneFree before.own × (n ≡ length before.received)) → HaveCome n before.received received own_before now → own_before ≡ before.own
+pub taken-after : {n : ℕ} (before : Part) {received waiting : List (List ℕ)} {now own_before : List Slot} (own : List Slot) (result : Option ℕ)
+    → ((n ≡ 0) × (waiting ≡ before.waiting)) ⊎ (NoneFree before.own × (n ≡ length before.received) × AreEmpty waiting) → HaveCome n before.received received own_before now → own_before ≡ before.own
     → IfSome result (λ task. slot_of now task ≡ Free) → IfSome result (λ task. own ≡ with_taken now task)
-    → IfSome result (λ task. HasTaken task before (record before { own = own; received = received }))
+    → IfSome result (λ task. HasTaken task before (record before { own = own; received = received; waiting = waiting }))
 taken-after before own None looked come same free taken = tt
-taken-after {n = n} before {received = received} {now = now} own (Some task) looked come same free taken = record {
+taken-after {n = n} before {received = received} {waiting = waiting} {now = now} own (Some task) looked come same free taken = record {
   senders = n;
   looked = looked;
   now = now;
   come = subst (λ (o : List Slot). HaveCome n before.received received o now) same come;
   was_free = free;
-  after_is = ap (λ (o : List Slot). record before { own = o; received = received }) taken;
+  after_is = ap (λ (o : List Slot). record before { own = o; received = received; waiting = waiting }) taken;
 }
 
 fresh-at : (setup : Setup) (n : ℕ) (parts : List Part) (added : Part) → AreFresh setup n parts → IsFresh setup n added → (cpu : ℕ) (part : Part) (b : Bool) → (cpu == n) ≡ b → cpu < n + 1
@@ -61,29 +62,32 @@ fresh-set {setup = setup} {n = n} {parts = parts} k after fresh within one = rec
 }
 
 -- a part with other ends, in none of which anything stands
-fresh-with : {setup : Setup} {cpu : ℕ} {before after : Part} (sent received : List (List ℕ)) (free : List ℕ) → IsFresh setup cpu before → All (λ l. l ≡ []) sent → All (λ l. l ≡ []) received
-    → after ≡ record before { sent = sent; free = free; received = received } → IsFresh setup cpu after
-fresh-with {setup = setup} {cpu = cpu} sent received free fresh none_sent none_received is = subst (λ (p : Part). IsFresh setup cpu p) (sym is) (record {
+fresh-with : {setup : Setup} {cpu : ℕ} {before after : Part} (sent received waiting : List (List ℕ)) (free : List ℕ) → IsFresh setup cpu before → All (λ l. l ≡ []) sent → All (λ l. l ≡ []) received
+    → AreEmpty waiting → after ≡ record before { sent = sent; free = free; received = received; waiting = waiting } → IsFresh setup cpu after
+fresh-with {setup = setup} {cpu = cpu} sent received waiting free fresh none_sent none_received none_waits is = subst (λ (p : Part). IsFresh setup cpu p) (sym is) (record {
   cpu_is = fresh.cpu_is;
   homes_are = fresh.homes_are;
   own_is = fresh.own_is;
   none_sent = none_sent;
   none_received = none_received;
+  none_waits = none_waits;
 })
 
 pub fresh-sending : {setup : Setup} {cpu : ℕ} {before after : Part} (k : ℕ) → IsFresh setup cpu before → after ≡ record before { sent = before.sent ++ [] ∷ []; free = before.free ++ k ∷ [] }
     → IsFresh setup cpu after
 fresh-sending {before = before} k fresh is =
-    fresh-with (before.sent ++ [] ∷ []) before.received (before.free ++ k ∷ []) fresh (All-push (λ l. l ≡ []) before.sent [] fresh.none_sent refl) fresh.none_received is
+    fresh-with (before.sent ++ [] ∷ []) before.received before.waiting (before.free ++ k ∷ []) fresh (All-push (λ l. l ≡ []) before.sent [] fresh.none_sent refl) fresh.none_received fresh.none_waits is
 
-pub fresh-receiving : {setup : Setup} {cpu : ℕ} {before after : Part} → IsFresh setup cpu before → after ≡ record before { received = before.received ++ [] ∷ [] } → IsFresh setup cpu after
+pub fresh-receiving : {setup : Setup} {cpu : ℕ} {before after : Part} → IsFresh setup cpu before
+    → after ≡ record before { received = before.received ++ [] ∷ []; waiting = before.waiting ++ [] ∷ [] } → IsFresh setup cpu after
 fresh-receiving {before = before} fresh is =
-    fresh-with before.sent (before.received ++ [] ∷ []) before.free fresh fresh.none_sent (All-push (λ l. l ≡ []) before.received [] fresh.none_received refl) is
+    fresh-with before.sent (before.received ++ [] ∷ []) (before.waiting ++ [] ∷ []) before.free fresh fresh.none_sent (All-push (λ l. l ≡ []) before.received [] fresh.none_received refl)
+    (empty-push before.waiting fresh.none_waits) is
 
 -- both ends of a ring are given
 pub fresh-joined : {setup : Setup} {n : ℕ} {parts : List Part} (sender home k : ℕ) (from with_end to with_ends : Part) → AreFresh setup n parts → sender < n → home < n
     → from ≡ get_or parts sender from → with_end ≡ record from { sent = from.sent ++ [] ∷ []; free = from.free ++ k ∷ [] }
-    → to ≡ get_or (set parts sender with_end) home to → with_ends ≡ record to { received = to.received ++ [] ∷ [] }
+    → to ≡ get_or (set parts sender with_end) home to → with_ends ≡ record to { received = to.received ++ [] ∷ []; waiting = to.waiting ++ [] ∷ [] }
     → AreFresh setup n (set (set parts sender with_end) home with_ends)
 fresh-joined {parts = parts} sender home k from with_end to with_ends fresh sends receives at sending at_home receiving =
     let once = fresh-set sender with_end fresh sends (fresh-sending k (fresh.each sender from sends (sym at)) sending) in

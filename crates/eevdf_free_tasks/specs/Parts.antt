@@ -7,7 +7,7 @@ use Rattle.eevdf_free_tasks.specs.declared.slot.Slot.{Slot}
 use Rattle.eevdf_free_tasks.specs.declared.slot.Slot.TheVariants.{Free, Taken}
 
 -- the part of a CPU: the homes of all numbers, its own numbers, what it has sent to each home, how many numbers more certainly fit into the
--- ring to each home, and what it has received from each sender
+-- ring to each home, what it has received from each sender, and what it has seen in the ring from each sender and not received
 pub record Part : Type 0 where
   pub cpu : ℕ
   pub homes : List ℕ
@@ -15,6 +15,7 @@ pub record Part : Type 0 where
   pub sent : List (List ℕ)
   pub free : List ℕ
   pub received : List (List ℕ)
+  pub waiting : List (List ℕ)
 
 -- a home's numbers after several are given back, one after the other
 abbrev pub all_given_back : List Slot → List ℕ → List Slot
@@ -44,20 +45,25 @@ pub record HaveCome (senders : ℕ) (before after : List (List ℕ)) (own own_af
   pub received : after ≡ appended before came
   pub own_is : own_after ≡ all_given_back own (concatenated came)
 
--- a number is taken from a part: at once where one is free, and else after what came back from all senders was given back
+-- each of these lists is empty
+abbrev pub AreEmpty : List (List ℕ) → Type 0
+AreEmpty lists = (place : ℕ) → slice_index_or lists place [] ≡ []
+
+-- a number is taken from a part: at once where one is free, and else after all that was seen of what came back was given back
 pub record HasTaken (task : ℕ) (before after : Part) : Type 0 where
   pub senders : ℕ
-  pub looked : (senders ≡ 0) ⊎ (NoneFree before.own × (senders ≡ length before.received))
+  pub looked : ((senders ≡ 0) × (after.waiting ≡ before.waiting)) ⊎ (NoneFree before.own × (senders ≡ length before.received) × AreEmpty after.waiting)
   pub now : List Slot
   pub come : HaveCome senders before.received after.received before.own now
   pub was_free : slot_of now task ≡ Free
-  pub after_is : after ≡ record before { own = with_taken now task; received = after.received }
+  pub after_is : after ≡ record before { own = with_taken now task; received = after.received; waiting = after.waiting }
 
 -- all that was seen of what came back was given back, and no number is free
 pub record HasNone (before after : Part) : Type 0 where
   pub come : HaveCome (length before.received) before.received after.received before.own after.own
+  pub emptied : AreEmpty after.waiting
   pub none : NoneFree after.own
-  pub after_is : after ≡ record before { own = after.own; received = after.received }
+  pub after_is : after ≡ record before { own = after.own; received = after.received; waiting = after.waiting }
 
 abbrev pub sent_to : Part → ℕ → List ℕ
 sent_to part home = slice_index_or part.sent home []
@@ -88,6 +94,7 @@ pub record IsFresh (setup : Setup) (cpu : ℕ) (part : Part) : Type 0 where
   pub own_is : part.own ≡ first_slots cpu setup
   pub none_sent : All (λ l. l ≡ []) part.sent
   pub none_received : All (λ l. l ≡ []) part.received
+  pub none_waits : AreEmpty part.waiting
 
 -- the parts of so many CPUs, in order
 pub record AreFresh (setup : Setup) (cpus : ℕ) (parts : List Part) : Type 0 where

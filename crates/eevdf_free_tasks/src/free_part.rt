@@ -9,7 +9,8 @@ use std::marker::Model;
 
 /// A CPU's part of the free numbers of a machine: whoever has it takes numbers of the CPU's own, and gives back those of any home. It may
 /// move to another thread. Contracts see the CPU, the homes of all numbers, its own numbers, the numbers that it has sent to each home, how
-/// many more certainly fit into the ring to each home, and the numbers that it has received from each sender, in order.
+/// many more certainly fit into the ring to each home, the numbers that it has received from each sender, in order, and those that it has
+/// seen in the ring from each and not received.
 ///
 /// A number of another home is given back through a ring to the part of that home, which comes to see it some time. That a part receives
 /// what others have sent, and nothing else, is what the crate `rtrb` says of the two ends of a ring. No contract here says which ends
@@ -27,7 +28,7 @@ pub struct FreePart {
 
 impl Model for FreePart {
     ghost use Rattle.std.specs.Prelude.{map};
-    ghost use Rattle.rtrb.specs.Ring.{known_free, received, sent};
+    ghost use Rattle.rtrb.specs.Ring.{known_free, known_items, received, sent};
     ghost use Rattle.eevdf_free_tasks.specs.Parts.{Part};
 
     ghost Value = { Part };
@@ -39,12 +40,13 @@ impl Model for FreePart {
       sent = map sent p.producers.items;
       free = map known_free p.producers.items;
       received = map received p.consumers.items;
+      waiting = map known_items p.consumers.items;
     } };
 }
 
 impl FreePart {
     ghost use Rattle.std.specs.Prelude.{◌≡◌, [], ◌∷◌, ◌++◌, ◌↔◌, IfErr, IfNone, IfOk, IfSome, IsFalse, IsSome, IsTrue, OnErr, OnOk};
-    ghost use Rattle.rtrb.specs.Ring.{known_free, received, sent};
+    ghost use Rattle.rtrb.specs.Ring.{known_free, known_items, received, sent};
     ghost use Rattle.eevdf_free_tasks.specs.Parts.{free_to, HasGiven, HasNone, HasSent, HasTaken, IsFresh, IsRefused};
     ghost use Rattle.eevdf_free_tasks.specs.Slots.{given_back, slot_of, with_taken};
     ghost use Rattle.eevdf_free_tasks.specs.declared.slot.Slot.TheVariants.{Begun, Taken};
@@ -77,8 +79,12 @@ impl FreePart {
 
     /// Adds the end that pops from a fresh ring, of the next sender.
     pub(crate) fn add_consumer(&mut self, end: Consumer<TaskId>) -> Result<(), AllocError>
-        requires { received end ≡ [] }
-        ensures { OnOk result (self.new ≡ record self.old { received = self.old.received ++ [] ∷ [] }) }
+        requires none { received end ≡ [] }
+        requires none_seen { known_items end ≡ [] }
+        ensures { OnOk result (self.new ≡ record self.old {
+          received = self.old.received ++ [] ∷ [];
+          waiting = self.old.waiting ++ [] ∷ [];
+        }) }
     {
         self.consumers.push(end)?;
         Ok(())
@@ -91,9 +97,9 @@ impl FreePart {
         self.cpu
     }
 
-    /// Takes a free number of the CPU's own, at once where one is free. Where none is, it first gives back what it sees that other parts
+    /// Takes a free number of the CPU's own, at once where one is free. Where none is, it first gives back all that it sees that other parts
     /// have sent. `None` exactly where none is free then: all of the home's numbers are taken, but for those that are still on their way.
-    /// No clause says that it sees what was sent. It neither waits nor takes memory.
+    /// No clause says that it sees all that was sent. It neither waits nor takes memory.
     pub fn take(&mut self) -> Option<TakenTask>
         ensures some { IfSome result (λ task. HasTaken task self.old self.new) }
         ensures none { IfNone result (HasNone self.old self.new) }

@@ -1,8 +1,8 @@
 //! What goes to other CPUs, and what comes back from them.
 
 ghost use Rattle.std.specs.Prelude.{◌≡◌, ◌<◌, ◌≤◌, ◌+◌, ◌∷◌, [], ◌++◌, length, map, slice_index_or, slice_set, IsFalse, IsTrue};
-ghost use Rattle.rtrb.specs.Ring.{known_free, received, sent, SameConsumer};
-ghost use Rattle.eevdf_free_tasks.specs.Parts.{HasCome, HaveCome};
+ghost use Rattle.rtrb.specs.Ring.{known_free, known_items, received, sent, SameConsumer};
+ghost use Rattle.eevdf_free_tasks.specs.Parts.{AreEmpty, HasCome, HaveCome};
 
 use crate::free_tasks::FreeTasks;
 use eevdf_queue::TaskId;
@@ -12,6 +12,7 @@ use rtrb::{Consumer, Producer};
 pub(crate) fn receive(consumer: &mut Consumer<TaskId>, own: &mut FreeTasks)
     ensures ring { SameConsumer consumer.old consumer.new }
     ensures come { HasCome (received consumer.old) (received consumer.new) own.old own.new }
+    ensures emptied { known_items consumer.new ≡ [] }
 {
     let count = consumer.slots();
     for _ in 0..count {
@@ -22,8 +23,9 @@ pub(crate) fn receive(consumer: &mut Consumer<TaskId>, own: &mut FreeTasks)
 
 /// Gives back all numbers that are seen in the rings of all senders, one after the other.
 pub(crate) fn receive_all(consumers: &mut Vec<Consumer<TaskId>>, own: &mut FreeTasks)
-    ensures { HaveCome (length consumers.old.items) (map received consumers.old.items)
+    ensures come { HaveCome (length consumers.old.items) (map received consumers.old.items)
         (map received consumers.new.items) own.old own.new }
+    ensures emptied { AreEmpty (map known_items consumers.new.items) }
 {
     for sender in 0..consumers.len() {
         receive(&mut consumers[sender], own);
