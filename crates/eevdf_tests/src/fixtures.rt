@@ -44,6 +44,19 @@ pub fn on_two_cpus(rt: &impl Abort, alloc: Global, homes: &[(u64, bool)]) -> Set
     setup_of(rt, alloc, &tasks, 2, 0)
 }
 
+/// A setup of so many CPUs without programs, each with so many tasks of nice level 0 that sleep there: those of CPU `c` are `c`, `c` and the
+/// number of CPUs, and so on.
+pub fn asleep_at_each(rt: &impl Abort, alloc: Global, cpus: usize, each: usize) -> Setup {
+    let mut tasks = Vec::new(alloc);
+    for _round in 0..each {
+        for home in 0..cpus {
+            let spec = task_at(rt, home as u64, true);
+            tasks.push(spec).expect(rt, "memory");
+        }
+    }
+    setup_of(rt, alloc, &tasks, cpus, 0)
+}
+
 /// A setup of these tasks and so many CPUs, of which each has so many picks as its program.
 pub fn setup_of(
     rt: &impl Abort,

@@ -1,8 +1,9 @@
 //! Numbers of tasks that are taken and given back, by one home and by parts of several CPUs.
 
-use crate::fixtures::{cpu, on_two_cpus, setup_of, task, task_at};
+mod two_takers;
+
+use crate::fixtures::{asleep_at_each, cpu, on_two_cpus, task};
 use eevdf_free_tasks::{FreePart, FreeTasks, TakenTask, TakenTasks, free_parts};
-use eevdf_ops::Setup;
 use std::alloc::Global;
 use std::process::Abort;
 
@@ -78,18 +79,6 @@ fn a_number_of_another_home_or_machine_is_refused(rt: HostRuntime) {
     );
 }
 
-/// So many CPUs, with three numbers each that sleep there: those of CPU `c` are `c`, `c` and the number of CPUs, and so on.
-fn three_asleep_at_each(rt: &impl Abort, alloc: Global, cpus: usize) -> Setup {
-    let mut tasks = Vec::new(alloc);
-    for _round in 0..3 {
-        for home in 0..cpus {
-            let spec = task_at(rt, home as u64, true);
-            tasks.push(spec).expect(rt, "memory");
-        }
-    }
-    setup_of(rt, alloc, &tasks, cpus, 0)
-}
-
 /// Takes all numbers of a home, asks that there are no more, and gives them back at another CPU, in the order in which they came.
 fn all_go_and_come_back(rt: &impl Abort, parts: &mut Vec<FreePart>, home: usize, at: usize) {
     let cpus = parts.len();
@@ -110,7 +99,7 @@ fn all_go_and_come_back(rt: &impl Abort, parts: &mut Vec<FreePart>, home: usize,
 
 /// All numbers of each home go round: they are given back at each CPU in turn, and come home before the next turn.
 fn numbers_go_round(rt: &impl Abort, alloc: Global, cpus: usize) {
-    let setup = three_asleep_at_each(rt, alloc, cpus);
+    let setup = asleep_at_each(rt, alloc, cpus, 3);
     let mut parts = free_parts(alloc, &setup).expect(rt, "memory");
     assert!(rt; parts.len() == cpus);
     for at in 0..cpus {
@@ -129,6 +118,39 @@ fn numbers_go_round(rt: &impl Abort, alloc: Global, cpus: usize) {
 fn each_cpu_gives_back_the_numbers_of_each_home(rt: HostRuntime) {
     for cpus in [1, 2, 8, 64] {
         numbers_go_round(&rt, rt.alloc(), cpus);
+    }
+}
+
+/// How many numbers of a home come back while it takes none that has come.
+const MANY: usize = 100;
+
+/// Takes each number of a home, which is free there, and gives it back at another CPU. Then all are taken once more, and are as free as
+/// before.
+fn many_come_back(rt: &impl Abort, parts: &mut Vec<FreePart>, home: usize, at: usize) {
+    let cpus = parts.len();
+    for round in 0..MANY {
+        let number = home.saturating_add(cpus.saturating_mul(round)) as u64;
+        let part = parts.get_mut(home).expect(rt, "part");
+        let taken = number_of(rt, part.take(), number);
+        let other = parts.get_mut(at).expect(rt, "part");
+        is_refused(rt, other.give_back(taken), None);
+    }
+    let part = parts.get_mut(home).expect(rt, "part");
+    for round in 0..MANY {
+        let number = home.saturating_add(cpus.saturating_mul(round)) as u64;
+        is_number(rt, part.take(), Some(number));
+    }
+    is_number(rt, part.take(), None);
+}
+
+#[test]
+fn all_numbers_that_came_back_meanwhile_are_handed_out(rt: HostRuntime) {
+    for cpus in [2, 10] {
+        let setup = asleep_at_each(&rt, rt.alloc(), cpus, MANY);
+        let mut parts = free_parts(rt.alloc(), &setup).expect(&rt, "memory");
+        for home in 0..cpus {
+            many_come_back(&rt, &mut parts, home, (home + 1) % cpus);
+        }
     }
 }
 
