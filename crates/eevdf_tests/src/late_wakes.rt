@@ -1,5 +1,8 @@
 //! Wakes that come when their task has ended, and under whose number another one may have begun: no number runs without a task.
 
+mod each_cpu;
+mod held_begin;
+
 ghost use Rattle.std.specs.Prelude.{◌≡◌};
 
 use crate::fixtures::{cpu, on_two_cpus, task};
@@ -23,7 +26,10 @@ struct OnCpu<N: Names> {
     wakes: Vec<DrainedWake>,
 }
 
-/// A machine of two CPUs.
+/// How many wakes a CPU's list has room for: more than come to it in a test, and one of each CPU.
+const WAKES: usize = 100;
+
+/// Two CPUs of a machine.
 #[derive(Drop)]
 struct Machine<N: Names> {
     fleet: Fleet<N>,
@@ -36,11 +42,26 @@ struct Machine<N: Names> {
 fn open<N: Names>(rt: &impl Abort, alloc: Global, setup: &Setup, kit: Kit) -> Machine<N>
     requires { kit ≡ N.kit }
 {
+    open_beside(rt, alloc, setup, kit, 0)
+}
+
+/// Opens a machine, and keeps of its CPUs one and the one above.
+fn open_beside<N: Names>(
+    rt: &impl Abort,
+    alloc: Global,
+    setup: &Setup,
+    kit: Kit,
+    cpu: usize,
+) -> Machine<N>
+    requires { kit ≡ N.kit }
+{
     let (fleet, mut seats) = Fleet::<N>::open(alloc, kit).expect(rt, "memory");
     let mut parts = free_parts(alloc, setup).expect(rt, "memory");
     let live = LiveTasks::open(alloc, setup, &mut parts).expect(rt, "memory");
-    let second = on_cpu(rt, alloc, seats.pop(), parts.pop());
-    let first = on_cpu(rt, alloc, seats.pop(), parts.pop());
+    let above = cpu.saturating_add(1);
+    assert!(rt; above < seats.len() && above < parts.len());
+    let second = on_cpu(rt, alloc, seats.remove(above), parts.remove(above));
+    let first = on_cpu(rt, alloc, seats.remove(cpu), parts.remove(cpu));
     Machine {
         fleet,
         live,
@@ -49,16 +70,11 @@ fn open<N: Names>(rt: &impl Abort, alloc: Global, setup: &Setup, kit: Kit) -> Ma
     }
 }
 
-fn on_cpu<N: Names>(
-    rt: &impl Abort,
-    alloc: Global,
-    seat: Option<Seat<N>>,
-    free: Option<FreePart>,
-) -> OnCpu<N> {
+fn on_cpu<N: Names>(rt: &impl Abort, alloc: Global, seat: Seat<N>, free: FreePart) -> OnCpu<N> {
     OnCpu {
-        seat: seat.expect(rt, "seat"),
-        free: free.expect(rt, "part"),
-        wakes: Vec::with_capacity(alloc, 2).expect(rt, "memory"),
+        seat,
+        free,
+        wakes: Vec::with_capacity(alloc, WAKES).expect(rt, "memory"),
     }
 }
 
@@ -84,20 +100,19 @@ impl<N: Names> Machine<N> {
         self.drains(rt, number, answer, resched);
     }
 
-    /// The first CPU drains one request, which comes to this answer.
+    /// The first CPU drains one request, which comes to this answer. The list keeps the wakes that came before.
     fn drains<R: Wait + Abort>(&mut self, rt: &R, number: u64, answer: Answer, resched: bool) {
         let OnCpu {
             seat,
             free: _,
             wakes,
         } = &mut self.first;
-        wakes.clear();
-        assert!(rt; self.fleet.cpus() <= wakes.capacity());
+        let before = wakes.len();
+        assert!(rt; self.fleet.cpus() <= wakes.capacity() - before);
         let listed = self.live.drain(rt, &self.fleet, seat, wakes);
-        assert!(rt; listed.resched == resched && wakes.len() == 1);
-        for wake in wakes.iter() {
-            assert!(rt; wake.task == task(rt, number) && wake.answer == answer);
-        }
+        assert!(rt; listed.resched == resched && wakes.len() == before.saturating_add(1));
+        let wake = wakes.last().expect(rt, "wake");
+        assert!(rt; wake.task == task(rt, number) && wake.answer == answer);
     }
 
     /// Asks that the first CPU picks this task, or none.
@@ -156,9 +171,9 @@ fn a_late_wake_leaves_no_number_without_a_task(rt: HostRuntime) {
     ends_before_its_wake::<Brand, _>(&rt, rt.alloc(), &setup, kit);
 }
 
-/// Makes number 0 runnable though no task has it, as a drain does that looks at no tasks.
-fn wake_a_stray<N: Names, R: Wait + Abort>(rt: &R, machine: &mut Machine<N>) {
-    machine.second.posts(rt, &machine.fleet, 0);
+/// Makes a number runnable though no task has it, as a drain does that looks at no tasks.
+fn wake_a_stray<N: Names, R: Wait + Abort>(rt: &R, machine: &mut Machine<N>, number: u64) {
+    machine.second.posts(rt, &machine.fleet, number);
     let drained = machine.fleet.drain(rt, &mut machine.first.seat);
     assert!(rt; drained.woken == 1);
 }
@@ -179,7 +194,7 @@ fn is_pulled_before<N: Names, R: Wait + Abort>(rt: &R, alloc: Global, setup: &Se
 {
     let mut machine = open::<N>(rt, alloc, setup, kit);
     machine.picks(rt, Some(1));
-    wake_a_stray(rt, &mut machine);
+    wake_a_stray(rt, &mut machine, 0);
     pull(rt, &mut machine, 0);
     machine.begins(rt, None);
     let seat = &mut machine.second.seat;
@@ -200,7 +215,7 @@ fn comes_before_a_task<N: Names, R: Wait + Abort>(rt: &R, alloc: Global, setup: 
     requires { kit ≡ N.kit }
 {
     let mut machine = open::<N>(rt, alloc, setup, kit);
-    wake_a_stray(rt, &mut machine);
+    wake_a_stray(rt, &mut machine, 0);
     machine.begins(rt, None);
     machine.picks(rt, Some(1));
     machine.begins(rt, Some(0));
