@@ -1,7 +1,7 @@
 -- What contracts see of tasks that come and go.
 use Rattle.std.specs.Prelude.{◌≡◌, ℕ, ℤ, ◌<◌, ◌≤◌, ◌++◌, ◌⊎◌, Bool, true, false, List, [], ◌∷◌, All, length, map, slice_index_or, ◌↔◌, IsTrue}
 use mathlib.Core.List.{IsPrefix}
-use Rattle.eevdf_ops.specs.{Machine.queue_at, Setup.Setup, Setup.homes_of, Setup.is_at_home, Setup.is_task}
+use Rattle.eevdf_ops.specs.{Machine.queue_at, Setup.Setup, Setup.homes_of, Setup.is_at_home}
 use Rattle.eevdf_ops.specs.{declared.deeds.Answer.Answer, declared.deeds.Line.Line}
 use Rattle.eevdf_ops.specs.declared.deeds.Answer.TheVariants.{Awake, Begun, Picked, Woken}
 use Rattle.eevdf_ops.specs.declared.deeds.Deed.TheVariants as deed
@@ -30,10 +30,9 @@ pub record Ending : Type 0 where
 abbrev pub ending_line : ℕ → Ending → Line
 ending_line cpu e = record { deed = deed.End cpu e.task; answer = e.answer }
 
--- a number is ended by a seat, if the setup has it
+-- a number is ended by a seat
 abbrev pub HasEnded : Setup → ℕ → Seat → Seat → Type 0
-HasEnded s task before after =
-    ((is_task (homes_of s) task ≡ false) × (after ≡ before)) ⊎ ((answer : Answer) × HasDone s (deed.End before.cpu task) answer before after)
+HasEnded s task before after = (answer : Answer) × HasDone s (deed.End before.cpu task) answer before after
 
 -- a wake behind the first so many of a list woke this number
 pub record HasWoken (first : ℕ) (wakes : List DrainedWake) (task : ℕ) : Type 0 where

@@ -176,7 +176,7 @@ impl LiveTasks {
     /// Ends the task that has a number, and gives the number back through the part. The task runs or waits on the seat's CPU, or sleeps and
     /// has its home there. Where it runs or waits on another CPU, or is woken at another home meanwhile, its number is a stray from then
     /// on: it runs there until the next pick, or waits until a pick finds it, and a pick that has just found it may give it once more.
-    /// `false`, and nothing changes: no task has the number.
+    /// `false`, and nothing changes: no task of the fleet has the number.
     ///
     /// The number alone says which task is meant. A call for a task that has ended before ends the next one that has the number, so the
     /// caller has to know that the task lives.
@@ -193,13 +193,14 @@ impl LiveTasks {
         ensures back { IsTrue result → IsBack task free.old free.new }
         ensures unchanged { IsFalse result → (seat.new ≡ seat.old) × (free.new ≡ free.old) }
     {
+        if !fleet.has_task(task) {
+            return false;
+        }
         // It is out of its place before it ends, so whoever wakes the number from then on sees that no task has it.
         let Some(taken) = self.taken.take(task) else {
             return false;
         };
-        if fleet.has_task(task) {
-            let _ = fleet.end(rt, seat, task);
-        }
+        let _ = fleet.end(rt, seat, task);
         give_back(free, taken);
         true
     }
