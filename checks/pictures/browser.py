@@ -79,6 +79,14 @@ def check_facts(what, facts, stretch):
         "ended by": stretch["why"]})
 
 
+def check_layouts(layouts):
+    """In each window the picture isn't scaled down, and its texts are apart and in it; in the widest the figures aren't cut."""
+    for layout in layouts:
+        expect("the scale and the smallest letters", (layout["scale"], layout["letters"]), (1, 9))
+        expect("texts that overlap or aren't in the picture", (layout["overlapping"], layout["outside"]), ([], []))
+    expect("by how much the figures are cut", layouts[-1]["cut"], 0)
+
+
 def at(stretches, cpu, time):
     return next(stretch for stretch in stretches if stretch["cpu"] == cpu and stretch["begin_ns"] <= time < stretch["end_ns"])
 
@@ -98,6 +106,7 @@ def check_driven(chromium, page, ground):
     stretches = json.loads(re.search(rb'id="data">(.*?)</script>', page, re.DOTALL)[1])["stretches"]
     expect("errors", said["errors"], [])
     expect("whether it is dark", (said["dark"], said["grounds"]), (ground == "dark", [GROUNDS[ground][1]] * 2))
+    check_layouts(said["layouts"])
     for what in ("whole", "zoomed", "moved", "back"):
         check_places(what, said[what])
     pointed, zoomed, whole = said["pointed"], said["zoomed"], said["whole"]
@@ -152,6 +161,7 @@ def check_untold(chromium, page):
     """Of a page that tells the first stretches alone the boxes of the others stay as they are."""
     said = driven(chromium, page, "light")
     expect("errors", said["errors"], [])
+    check_layouts(said["layouts"])
     check_places("the end", said["end"])
     expect("whether coarse boxes are there, and faded ones", (bool(said["end"]["boxes"]), said["end"]["behind"]), (True, 0))
 

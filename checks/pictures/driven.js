@@ -73,7 +73,27 @@ function lookAtEnd() {
   return { ...seen(), behind: svg.querySelectorAll(".behind:not([hidden])").length };
 }
 
+// How the picture stands in a window so wide: its scale, its smallest letters, the texts that overlap or aren't in it, and by how much the
+// figures are cut.
+function layoutAt(width) {
+  document.body.style.width = `${width - 28}px`;
+  const ground = svg.getBoundingClientRect(), figures = document.querySelector("#figures");
+  const texts = [...svg.querySelectorAll("text")].filter((text) => !text.hasAttribute("hidden"));
+  const boxes = texts.map((text) => ({ words: text.textContent, ...text.getBoundingClientRect().toJSON() }));
+  const apart = (one, other) => one.right - 1 <= other.left || one.bottom - 2 <= other.top;
+  const layout = {
+    scale: ground.width / svg.viewBox.baseVal.width, cut: figures.scrollWidth - figures.clientWidth,
+    letters: Math.min(...texts.map((text) => parseFloat(getComputedStyle(text).fontSize))),
+    overlapping: boxes.flatMap((one, at) => boxes.slice(at + 1).filter((other) => !apart(one, other) && !apart(other, one))
+      .map((other) => [one.words, other.words])),
+    outside: boxes.filter((box) => box.left < ground.left || ground.right < box.right).map((box) => box.words),
+  };
+  document.body.style.width = "";
+  return layout;
+}
+
 async function drive() {
+  said.layouts = [390, 768, 1280].map(layoutAt);
   said.dark = matchMedia("(prefers-color-scheme: dark)").matches;
   said.grounds = [getComputedStyle(document.body).backgroundColor, getComputedStyle(svg.querySelector(".w")).fill];
   said.whole = seen();

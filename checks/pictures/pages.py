@@ -6,6 +6,7 @@ import re
 from collections import defaultdict
 from html.parser import HTMLParser
 
+from figures import CPU_HEADINGS, TASK_HEADINGS
 from plain.report import text_of
 from stretch_table import listed
 from svg import Wrong, expect
@@ -22,7 +23,7 @@ class Page(HTMLParser):
 
     def __init__(self, text):
         super().__init__()
-        self.open, self.texts, self.rows, self.problems = [], defaultdict(str), [], []
+        self.open, self.texts, self.tables, self.problems = [], defaultdict(str), [], []
         self.feed(text)
         self.close()
         expect("elements without an end", self.open, [])
@@ -30,10 +31,12 @@ class Page(HTMLParser):
 
     def handle_starttag(self, tag, attrs):
         self.look(attrs)
+        if tag == "table":
+            self.tables.append([])
         if tag == "tr":
-            self.rows.append([])
+            self.tables[-1].append([])
         if tag in ("td", "th"):
-            self.rows[-1].append("")
+            self.tables[-1][-1].append("")
         if tag not in VOID:
             self.open.append((tag, dict(attrs).get("id") or tag))
 
@@ -54,7 +57,7 @@ class Page(HTMLParser):
         if self.open:
             self.texts[self.open[-1][1]] += data
         if self.open and self.open[-1][0] in ("td", "th"):
-            self.rows[-1][-1] += data
+            self.tables[-1][-1][-1] += data
 
     def handle_comment(self, data):
         self.problems.append(("comment", data))
@@ -90,8 +93,10 @@ def check_whole(text, picture, table, figures, file=None):
     if picture_in(text) != picture:
         raise Wrong("another picture")
     rows = [row.split() for row in table.decode().splitlines()[1:]]
-    expect("the table", [row for row in page.rows if len(row) == 7][1:], rows[:MOST_LISTED])
-    expect("the figures", page.texts["figures"], figures.decode())
+    listed_rows, *figured = page.tables
+    expect("the table", listed_rows[1:], rows[:MOST_LISTED])
+    for said, part, headings in zip(figured, figures.decode().split("\n\n"), (TASK_HEADINGS, CPU_HEADINGS), strict=True):
+        expect("the figures", said, [list(headings), *(row.split() for row in part.splitlines()[1:])])
     data = page.data()
     counts = len(data["stretches"]), data["left_out"]
     expect("how many stretches are told and left out", counts, (len(rows[:MOST_LISTED]), len(rows[MOST_LISTED:])))

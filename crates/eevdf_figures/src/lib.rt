@@ -2,7 +2,7 @@
 //!
 //! `Counts` is an observer of a history that is done once more: it counts each deed as far as it is in the time that is counted, and looks
 //! at the queues for what no line says: lags, shares (service.rt), and how late requests were beside how late they could be (lateness.rt).
-//! `figures_of` makes rows of what was counted, and `table_of` and `json_of` write these.
+//! `figures_of` makes rows of what was counted, and `table_of`, `html_of` and `json_of` write these.
 #![tactic(auto)]
 
 mod counted;
@@ -17,4 +17,4 @@ mod waits;
 
 pub use counts::Counts;
 pub use rows::{Figures, figures_of};
-pub use table::{json_of, table_of};
+pub use table::{html_of, json_of, table_of};

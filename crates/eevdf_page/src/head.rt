@@ -17,7 +17,7 @@ body{margin:1em;font:14px sans-serif;background:var(--ground);color:var(--words)
 h1{font-size:1.3em}
 h2{font-size:1.1em;margin-top:1.5em}
 #picture{overflow-x:auto;outline-offset:2px}
-#picture svg{display:block}
+#picture svg{display:block;max-width:none!important}
 #picture [hidden]{display:none}
 #picture .dim{opacity:.12}
 #picture .behind{opacity:.3}
@@ -31,8 +31,12 @@ table{border-collapse:collapse;font-variant-numeric:tabular-nums}
 th{position:sticky;top:0;background:var(--ground)}
 th,td{padding:.1em .8em;text-align:right;border-bottom:1px solid var(--lines)}
 tr.told,tbody tr:hover{background:var(--chosen)}
-pre{margin:0;padding:.5em}
+#figures table{font-size:.85em;width:max-content;max-width:1230px;margin-bottom:1em}
+#figures th,#figures td{padding:.1em .4em;overflow-wrap:anywhere}
 kbd{border:1px solid var(--lines);border-radius:3px;padding:0 .3em}
+@media (max-width:40em){
+#told{grid-template-columns:max-content auto}
+}
 @media (prefers-color-scheme:dark){
 :root{--ground:#161616;--words:#e6e6e6;--lines:#555;--chosen:#4a3f14}
 #picture .w{fill:#161616}

@@ -13,7 +13,7 @@ use std::alloc::{AllocError, Global};
 /// So many stretches are told and listed at most: the first of those that are chosen.
 const MOST_LISTED: usize = 5000;
 
-/// The page of a scene, whose lags have what is known before and after each deed, with these figures, as text, and the name of the file
+/// The page of a scene, whose lags have what is known before and after each deed, with these figures, as tables of HTML, and the name of the file
 /// that it is of, where it is of one. It is refused memory alone.
 pub fn page_of(
     alloc: Global,
@@ -29,7 +29,7 @@ pub fn page_of(
     page.extend_from_slice(&picture_of(alloc, scene)?)?;
     page.extend_from_slice(lists_of(alloc, scene, &places, left_out)?.as_bytes())?;
     page.extend_from_slice(figures)?;
-    page.extend_from_slice(b"</pre></div>\n")?;
+    page.extend_from_slice(b"</div>\n")?;
     page.extend_from_slice(BEFORE_DATA.as_bytes())?;
     page.extend_from_slice(&data_of(alloc, scene, file, &places, left_out)?)?;
     page.extend_from_slice(AFTER_DATA.as_bytes())?;
@@ -80,6 +80,6 @@ fn lists_of(
     push_notes(&mut text, scene, places.len(), left_out)?;
     text.push_str("<h2>The stretches</h2>\n")?;
     push_table(alloc, &mut text, &scene.turns.stretches, places)?;
-    text.push_str("<h2>The figures</h2>\n<div class=\"wide\"><pre id=\"figures\">")?;
+    text.push_str("<h2>The figures</h2>\n<div class=\"wide\" id=\"figures\">\n")?;
     Ok(text)
 }

@@ -7,7 +7,7 @@ use crate::progress::ProgressLine;
 use crate::words::{Output, Words};
 use eevdf_bench::{BenchFault, Watched, WorkloadText, read_input, read_workload, write_text};
 use eevdf_clocks::Moment;
-use eevdf_figures::{Counts, Figures, figures_of, json_of, table_of};
+use eevdf_figures::{Counts, Figures, figures_of, html_of, json_of, table_of};
 use eevdf_ops::{Setup, Solo};
 use eevdf_page::page_of;
 use eevdf_picture::picture_of;
@@ -165,7 +165,7 @@ impl Schedule<'_> {
         let counts = Counts::new(alloc, self.setup, self.scale)?;
         let mut both = LagsAndCounts { lags, counts };
         self.observe(alloc, &mut both)?;
-        let figures = table_of(alloc, &self.figures(alloc, &mut both.counts, &turns)?)?;
+        let figures = html_of(alloc, &self.figures(alloc, &mut both.counts, &turns)?)?;
         let scene = self.scene(&turns, &both.lags, &shown);
         page_of(alloc, &scene, self.words.file_name(), &figures)
     }
