@@ -6,7 +6,7 @@ USAGE = {
     "eevdf": "usage: eevdf solo|replay|run [--history] [--times] [solo: --strict] [FILE]\n",
     "eevdf_orders": "usage: eevdf_orders [--seed N] [FILE]\n",
     "eevdf_timeline": "usage: eevdf_timeline [--replay [--race]|--run] [--html|--perfetto|--table|--stats [--json]] [--rows cpus|tasks]"
-                      " [--from NS] [--to NS] [--cpu N,..] [--task N,..] [FILE]\n",
+                      " [--width PX] [--from NS] [--to NS] [--cpu N,..] [--task N,..] [FILE]\n",
 }
 COMMANDS = "commands are solo, replay, run\n"
 BEHIND = "behind a command stand --history, --times, of solo --strict, and the name of a file\n"
@@ -61,6 +61,10 @@ WORDS = (
     words("eevdf_timeline", "--perfetto --table", "--table excludes --perfetto, --stats and --json\n"),
     words("eevdf_timeline", "--rows both", '--rows takes cpus or tasks, and "both" is neither\n'),
     words("eevdf_timeline", "--rows=tasks --table", "rows are of a picture: --rows excludes --perfetto, --table and --stats\n"),
+    words("eevdf_timeline", "--width 319", '--width takes a whole number of pixels from 320 to 10000, and "319" is none\n'),
+    words("eevdf_timeline", "--width=10001", '--width takes a whole number of pixels from 320 to 10000, and "10001" is none\n'),
+    words("eevdf_timeline", "--width 400 --table", "a width is of a picture: --width excludes --perfetto, --table and --stats\n"),
+    words("eevdf_timeline", "--replay --race --width 400", "a race is as wide as its steps: --race excludes --width\n"),
     words("eevdf_timeline", "--race", "--race stands with --replay\n"),
     words("eevdf_timeline", "--run --race", "--race stands with --replay\n"),
     words("eevdf_timeline", "--replay --race --html", "--race excludes --html, --perfetto, --table, --stats and --json\n"),

@@ -13,7 +13,7 @@ from svg import Wrong, expect
 
 HERE = Path(__file__).resolve().parent
 
-# The edges of the lanes, in units of the picture, and how far a place may be from where it has to be.
+# The edges of the lanes, in units of the picture where no word says how wide it is, and how far a place may be from where it has to be.
 LEFT, WIDTH, NEAR = 90, 890, 0.11
 
 UNITS = {"s": 10**9, "ms": 10**6, "µs": 1000, "ns": 1}
@@ -37,11 +37,11 @@ def driven(chromium, page, ground):
     return json.loads(html.unescape(found[1]))
 
 
-def check_places(what, seen):
+def check_places(what, seen, width=WIDTH):
     """Each box that is shown shares time with what is seen, and stands where its times are, cut at the edges."""
     first, last = seen["from"], seen["to"]
     for box in seen["boxes"]:
-        left, right = (LEFT + WIDTH * (min(max(time, first), last) - first) / (last - first) for time in (box["begin"], box["end"]))
+        left, right = (LEFT + width * (min(max(time, first), last) - first) / (last - first) for time in (box["begin"], box["end"]))
         if not (box["begin"] < last and first < box["end"]) or abs(box["left"] - left) > NEAR or abs(box["width"] - right + left) > NEAR:
             raise Wrong(f"{what}: {box} from {first} to {last}")
 
@@ -157,12 +157,12 @@ def check_keys(said, whole, stretches):
     expect("what is told of the heading", said["nothing"], {"here": "nothing is known"})
 
 
-def check_untold(chromium, page):
+def check_untold(chromium, page, width=WIDTH):
     """Of a page that tells the first stretches alone the boxes of the others stay as they are."""
     said = driven(chromium, page, "light")
     expect("errors", said["errors"], [])
     check_layouts(said["layouts"])
-    check_places("the end", said["end"])
+    check_places("the end", said["end"], width)
     expect("whether coarse boxes are there, and faded ones", (bool(said["end"]["boxes"]), said["end"]["behind"]), (True, 0))
 
 
@@ -176,4 +176,6 @@ def check_in_browser(checks):
         checks.attempt(f"a {ground} page in a browser", check_driven, chromium, page, ground)
     part = checks.written(("--html", "--from", "25000000", "--to", "85000000"), made.dense())
     checks.attempt("a page of a part in a browser", check_driven, chromium, part, "light")
+    narrow = checks.written(("--html", "--width", "320"), made.longest(32000))
+    checks.attempt("a narrow page in a browser", check_untold, chromium, narrow, 210)
     checks.attempt("a page of 7830 stretches in a browser", check_untold, chromium, checks.written(("--html",), made.longest(32000)))

@@ -154,6 +154,19 @@ def check_window(checks, data):
     check_task_picture(checks.written((*words[:4], "--rows=tasks"), data), timeline, (begin, end))
 
 
+def check_widths(checks):
+    """Pictures as wide as they are asked for, of lanes and of rows, the least and the greatest among them."""
+    for data in (made.dense(), made.crowd(), made.late_pull()):
+        timeline = Timeline(read_workload(data).setup, read_workload(data).script)
+        for page in (320, 390, 768, 1280, 10000):
+            words = ("--width", str(page))
+            picture = checks.written(words, data)
+            check_picture(picture, timeline, page=page)
+            check_task_picture(checks.written((*words, "--rows", "tasks"), data), timeline, page=page)
+            expect("the picture of a page", picture_in(checks.written((*words, "--html"), data)), picture)
+        expect("the width without a word", checks.written(("--width", "1000"), data), checks.written((), data))
+
+
 def check_order(checks, data):
     try:
         script = script_of_replay(data)
@@ -314,7 +327,7 @@ def check_made(checks):
     for name, check in (("choices", check_choices), ("yields of tasks", check_yields), ("an early arrow", check_late_pull), ("a late wake", check_late_wake),
                         ("why stretches end", check_ends), ("the edges of a time", check_edges), ("late requests", check_late_requests),
                         ("a task alone of each level", check_alone), ("30 tasks", check_crowd), ("a task that sleeps", check_sleeper),
-                        ("3000 stretches", check_dense)):
+                        ("3000 stretches", check_dense), ("widths", check_widths)):
         checks.attempt(name, check, checks)
     checks.attempt("an empty machine", check_script, checks, made.empty())
     for name in HOSTILE_NAMES:

@@ -1,13 +1,19 @@
 """Whether the lanes of a picture show what their CPUs did: boxes, marks and arrows."""
 
+import math
 import re
 from collections import defaultdict
 from dataclasses import dataclass
 
-from svg import FILLS, HEIGHT, LEFT, SVG, WIDTH, Wrong, expect, read, tenths, title_of
+from svg import FILLS, HEIGHT, LEFT, SVG, Wrong, expect, read, tenths, title_of
 
 BOX = re.compile(r"(task|\d+) (\d+|stretches) on CPU (\d+), (\d+) ns, from (\d+) ns to (\d+) ns")
 ARROW = re.compile(r"M(\S+) (\S+)L(\S+) (\S+)")
+# The head of an arrow, in tenths: how long it is, how wide half of it, and how far its tip is before the end of the line.
+LONG, HALF_HEAD, AHEAD = 60, 30, 15
+MARKER = {"viewBox": "0 0 6 6", "refX": "4.5", "refY": "3", "markerWidth": "6", "markerHeight": "6", "markerUnits": "userSpaceOnUse",
+          "orient": "auto"}
+HEAD_SHAPE = "M0 0L6 3L0 6Z"
 
 # How high and wide a mark is, and how wide a digit of a box's number; a box so wide has its number.
 MARK, DIGIT, WIDE = 90, 65, 400
@@ -31,7 +37,7 @@ def lanes_of(picture, of="CPU "):
     lanes, bottom = {}, 0
     for rect in picture.named("rect", "l"):
         top = tenths(rect.get("y"))
-        expect("a lane", (tenths(rect.get("x")), tenths(rect.get("width")), tenths(rect.get("height"))), (LEFT, WIDTH, HEIGHT))
+        expect("a lane", (tenths(rect.get("x")), tenths(rect.get("width")), tenths(rect.get("height"))), (LEFT, picture.width, HEIGHT))
         if top < bottom:
             raise Wrong(f"a lane at {top} in the one before it")
         beside = [text for y, text in names if top < y < top + HEIGHT and tenths(text.get("x")) < LEFT]
@@ -58,7 +64,7 @@ def boxes_of(picture, lanes):
                 raise Wrong(f"no number in {box}")
     expect("the numbers that follow their boxes", numbers, len(picture.named("text", "n")))
     for cpu, row in boxes.items():
-        check_row(cpu, row)
+        check_row(cpu, row, LEFT + picture.width)
     return boxes
 
 
@@ -80,11 +86,11 @@ def check_number(text, box, top):
         raise Wrong(f"the number of {box} isn't in it")
 
 
-def check_row(cpu, boxes):
+def check_row(cpu, boxes, edge):
     """The boxes of a lane overlap neither in their places nor in their times, and are as long as what was charged."""
     right, end = LEFT, 0
     for box in boxes:
-        if not right <= box.left <= box.right <= LEFT + WIDTH or not end <= box.begin < box.end:
+        if not right <= box.left <= box.right <= edge or not end <= box.begin < box.end:
             raise Wrong(f"{box}, where the one before ends at {right}, {end} ns")
         if not 0 < box.charged <= box.end - box.begin or box.count == 1 and box.charged != box.end - box.begin:
             raise Wrong(f"the length of {box} of CPU {cpu}")
@@ -166,3 +172,23 @@ def check_arrows(picture, drawn, lanes, rows):
         start = ends[1]
         if not min(start, middle) <= tip <= max(start, middle) or abs(middle - tip) > MARK:
             raise Wrong(f"the arrow of {title} ends at {tip}, and its mark is at {middle}")
+    marks = [(tenths(use.get("x")), tenths(use.get("y"))) for use in picture.uses() if title_of(use)]
+    for arrow in arrows:
+        check_head(arrow, marks)
+    for marker in picture.root.iter(SVG + "marker"):
+        expect("the head of an arrow", {key: value for key, value in marker.items() if key != "id"}, MARKER)
+        expect("its shape", [path.get("d") for path in marker], [HEAD_SHAPE])
+
+
+def check_head(arrow, marks):
+    """The head of an arrow lies over no mark."""
+    begin, start, end, tip = map(tenths, read(ARROW, arrow.get("d")))
+    length = math.hypot(end - begin, tip - start) or 1
+    along, across = ((end - begin) / length, (tip - start) / length), ((start - tip) / length, (end - begin) / length)
+    corners = [(end + far * along[0] + side * across[0], tip + far * along[1] + side * across[1])
+               for far, side in ((AHEAD, 0), (AHEAD - LONG, HALF_HEAD), (AHEAD - LONG, -HALF_HEAD))]
+    left, right = min(x for x, _ in corners), max(x for x, _ in corners)
+    top, bottom = min(y for _, y in corners), max(y for _, y in corners)
+    for x, y in marks:
+        if abs(x - end) < 2 * MARK and left < x + MARK // 2 and x - MARK // 2 < right and top < y + MARK // 2 and y - MARK // 2 < bottom:
+            raise Wrong(f"the head of the arrow of {title_of(arrow)} is over the mark at {x}, {y}")

@@ -5,11 +5,12 @@ import json
 import re
 from collections import defaultdict
 from html.parser import HTMLParser
+from xml.etree import ElementTree
 
 from figures import CPU_HEADINGS, TASK_HEADINGS
 from plain.report import text_of
 from stretch_table import listed
-from svg import Wrong, expect
+from svg import Wrong, expect, fills_of
 
 # So many stretches are told and listed.
 MOST_LISTED = 5000
@@ -97,6 +98,7 @@ def check_whole(text, picture, table, figures, file=None):
     expect("the table", listed_rows[1:], rows[:MOST_LISTED])
     for said, part, headings in zip(figured, figures.decode().split("\n\n"), (TASK_HEADINGS, CPU_HEADINGS), strict=True):
         expect("the figures", said, [list(headings), *(row.split() for row in part.splitlines()[1:])])
+    check_dark(text)
     data = page.data()
     counts = len(data["stretches"]), data["left_out"]
     expect("how many stretches are told and left out", counts, (len(rows[:MOST_LISTED]), len(rows[MOST_LISTED:])))
@@ -105,6 +107,13 @@ def check_whole(text, picture, table, figures, file=None):
     expect("the file", data["file"], file)
     expect("scripts and their ends", (text.count(b"<script"), text.count(b"</script"), text.count(b"<!--")), (2, 2, 0))
     return page
+
+
+def check_dark(text):
+    """The page's own colours, which signs have on a dark ground, are none of a task."""
+    style = re.search(r"<style>(.*?)</style>", text.decode(), re.DOTALL)[1]
+    tasks = {colour for colour, *_ in fills_of(ElementTree.fromstring(picture_in(text))).values()}
+    expect("colours of tasks in the page's style", tasks & set(re.findall(r"#\w+", style)), set())
 
 
 def check_page(text, timeline, picture, table, figures, window=None, cpus=None):

@@ -2,7 +2,7 @@
 
 import re
 
-from svg import FILLS, LEFT, PAGE, WIDTH, Wrong, expect, read, tenths, title_of
+from svg import FILLS, LEFT, Wrong, expect, read, tenths, title_of
 
 # How high the half of a panel is, and how wide a sleep is that is drawn, in tenths.
 HALF, LEAST_SLEEP = 240, 30
@@ -22,7 +22,7 @@ def check_axes(picture):
         place, top, bottom = map(tenths, read(LINE, path.get("d")))
         number, unit = read(LABEL, text.text)
         time = int(number) * UNITS[unit]
-        expect(f"the place of {text.text}", (place, place_of(text)), (picture.place(time), place))
+        expect(f"the place of {text.text}", (place, place_of(picture, text)), (picture.place(time), place))
         if not (picture.begin <= time <= picture.end and bottom < tenths(text.get("y")) < bottom + 200):
             raise Wrong(f"the label {text.text}")
         axes.setdefault((top, bottom), []).append(time)
@@ -31,10 +31,10 @@ def check_axes(picture):
     return list(axes)
 
 
-def place_of(label):
+def place_of(picture, label):
     """Where the line of a label is: in its middle, or before its end where it has no room on the right."""
     place, is_last = tenths(label.get("x")), label.get("class") == "a r"
-    if place + (0 if is_last else HALF_LETTER * len(label.text)) > 10 * PAGE:
+    if place + (0 if is_last else HALF_LETTER * len(label.text)) > 10 * picture.page:
         raise Wrong(f"{label.text} isn't in the picture")
     return place - BEHIND if is_last else place
 
@@ -42,7 +42,8 @@ def place_of(label):
 def check_steps(picture, times):
     """The times are one step apart, and neither few nor many."""
     steps = {after - before for before, after in zip(times, times[1:])}
-    if len(steps) > 1 or not (3 if picture.end - picture.begin > 10 else 1) <= len(times) <= 10:
+    most = max(3, picture.width // 1000)
+    if len(steps) > 1 or not (most * 2 // 5 if picture.end - picture.begin > 10 else 1) <= len(times) <= most + 2:
         raise Wrong(f"an axis with {times}")
 
 
@@ -57,9 +58,9 @@ def panels_of(picture):
     tops = []
     for rect, path in zip(picture.named("rect", "e"), picture.named("path", "z"), strict=True):
         top = tenths(rect.get("y"))
-        expect("a shaded half", tuple(tenths(rect.get(key)) for key in ("x", "width", "height")), (LEFT, WIDTH, HALF))
+        expect("a shaded half", tuple(tenths(rect.get(key)) for key in ("x", "width", "height")), (LEFT, picture.width, HALF))
         expect(f"the lines of the panel at {top}", tuple(map(tenths, read(FRAME, path.get("d")))),
-               (LEFT, top + HALF, LEFT + WIDTH, LEFT, top + 2 * HALF, LEFT + WIDTH))
+               (LEFT, top + HALF, LEFT + picture.width, LEFT, top + 2 * HALF, LEFT + picture.width))
         if tops and top < tops[-1] + 2 * HALF:
             raise Wrong(f"a panel at {top} in the one before it")
         tops.append(top)

@@ -2,16 +2,16 @@
 
 from lanes import boxes_of, check_boxes, check_marks, lanes_of
 from panels import check_axes, check_panels, panels_of
-from svg import Picture, Wrong, expect, title_of
+from svg import PAGE, ROWS_LEGEND, Picture, Wrong, expect, title_of
 from task_rows import check_rows
 from view import View
 
 
-def check_picture(text, timeline, window=None, cpus=None):
+def check_picture(text, timeline, window=None, cpus=None, page=PAGE):
     """Raises Wrong where the picture of a timeline, or of a part of its time or some of its CPUs, shows anything else. Gives how many
     stretches are joined in boxes."""
     view = View(timeline, *(window or (0, timeline.end())), cpus or range(timeline.setup.cpus()))
-    picture = Picture(text, view.begin, view.end)
+    picture = Picture(text, view.begin, view.end, page=page)
     lanes = lanes_of(picture)
     expect("the lanes", list(lanes), view.cpus)
     axes = check_axes(picture)
@@ -34,8 +34,8 @@ def check_head(picture, timeline, cpus, tasks, deeds):
     of_cpus, of_tasks = part(cpus, setup.cpus()), part(tasks, len(setup.tasks))
     names = "CPU" if setup.cpus() == 1 else "CPUs", "task" if len(setup.tasks) == 1 else "tasks"
     expect("the title", title_of(picture.root), f"A schedule of {of_cpus} {names[0]} and {of_tasks} {names[1]}")
-    expect("the first line", [text.text for text in picture.named("text", "h")],
-           [f"CPUs {of_cpus}, tasks {of_tasks}, deeds {part(deeds, len(timeline.moments))}: what ran when, by the time that ticks took"])
+    expect("the first line", " ".join(text.text for text in picture.named("text", "h")),
+           f"CPUs {of_cpus}, tasks {of_tasks}, deeds {part(deeds, len(timeline.moments))}: what ran when, by the time that ticks took")
 
 
 def check_lags(picture, view, axes):
@@ -50,10 +50,10 @@ def check_lags(picture, view, axes):
         check_around("the panels", axes[1], tops[0], tops[-1])
 
 
-def check_task_picture(text, timeline, window=None):
+def check_task_picture(text, timeline, window=None, page=PAGE):
     """Raises Wrong where the picture of what the tasks of a timeline did, or of a part of its time, shows anything else."""
     view = View(timeline, *(window or (0, timeline.end())), range(timeline.setup.cpus()))
-    picture = Picture(text, view.begin, view.end, {})
+    picture = Picture(text, view.begin, view.end, ROWS_LEGEND, page)
     axes = check_axes(picture)
     check_rows(picture, timeline, axes[0][1])
     check_head(picture, timeline, len(view.cpus), len(timeline.setup.tasks), view.shown.deeds)

@@ -15,14 +15,15 @@ sys.path.append(str(TOP / "checks/hostile"))
 from documents import DOCUMENTS
 
 USAGE = (b"usage: eevdf_timeline [--replay [--race]|--run] [--html|--perfetto|--table|--stats [--json]] [--rows cpus|tasks]"
-         b" [--from NS] [--to NS] [--cpu N,..] [--task N,..] [FILE]\n")
+         b" [--width PX] [--from NS] [--to NS] [--cpu N,..] [--task N,..] [FILE]\n")
 BAD_WORDS = ("--replay --run", "--perfetto --stats", "--table --stats", "--table --perfetto", "--table --json", "--html --table",
              "--html --perfetto", "--html --stats", "--html --json", "--html --html", "--html --rows", "--rows", "--rows task",
              "--rows tasks --table", "--json", "--perfetto --json", "--stats --from 5 --to 5", "--from 5 --to 5", "--from x",
              "--from -1", "--to", "--cpu 64", "--cpu 0,", "--task 1024", "--task 0;1", "--task", "solo", "--helps", "help",
              "--replay --replay", "--race", "--run --race", "--replay --race --html", "--replay --race --stats",
              "--replay --race --rows tasks", "--replay --race --cpu 0", "--replay --race --task 0", "--replay --race --from 5 --to 5",
-             "--to 18446744073709551616")
+             "--to 18446744073709551616", "--width", "--width x", "--width 319", "--width 10001", "--width 400 --width 400",
+             "--width 400 --table", "--perfetto --width 400", "--stats --width 400", "--replay --race --width 400")
 
 # The address space in which hostile texts are read, and which of them are sent.
 BYTES = 1 << 30

@@ -6,15 +6,18 @@ from xml.etree import ElementTree
 SVG = "{http://www.w3.org/2000/svg}"
 ELEMENTS = {"svg", "title", "style", "defs", "pattern", "marker", "rect", "path", "text", "use"}
 
-# How wide the page is, in units, and a letter of a note at most.
-PAGE, LETTER = 1000, 7
+# How wide a picture is where no word says, in units, a letter of a note at most, and how wide what is beside the lanes.
+PAGE, LETTER, BESIDE = 1000, 7, 110
 
-# Lengths and places are in tenths of a unit: the left edge of the lanes, their width and the height of each.
-LEFT, WIDTH, HEIGHT = 900, 8900, 240
+# Lengths and places are in tenths of a unit: the left edge of the lanes and the height of each.
+LEFT, HEIGHT = 900, 240
 FILLS = 28
+# The words of the legend for each sign, and for each class of arrows and boxes; with rows of tasks there are others.
 LEGEND = {"pick": "pick", "same": "pick of the same", "wake": "wake", "sleep": "sleep", "pull": "pull", "renice": "renice",
           "yield": "yield", "refused": "refused", "begin": "begin", "end": "end", "set": "set", "rebase": "rebase",
-          "nothing": "found nothing"}
+          "nothing": "found nothing", "p": "pulled from", "q": "woken from", "b m": "several stretches", "b o": "task not chosen",
+          "u": "task sleeps"}
+ROWS_LEGEND = {"b": "runs, on the CPU of the number", "v": "waits", "u": "sleeps"}
 
 
 class Wrong(Exception):
@@ -44,22 +47,24 @@ def title_of(element):
 
 
 class Picture:
-    """The elements of a picture of the time from a beginning to an end, which has these signs in its legend."""
+    """The elements of a picture of the time from a beginning to an end, so wide, whose legend has words of these."""
 
-    def __init__(self, text, begin, end, legend=LEGEND):
+    def __init__(self, text, begin, end, legend=LEGEND, page=PAGE):
         self.root = ElementTree.fromstring(text)
-        self.begin, self.end = begin, end
+        self.begin, self.end, self.page, self.width = begin, end, page, 10 * (page - BESIDE)
+        expect("the width", (self.root.get("width"), self.root.get("viewBox").split()[2]), (str(page), str(page)))
         expect("the root", self.root.tag, SVG + "svg")
         check_alone(text, self.root)
         self.parts = list(self.root)
         self.notes = " ".join(part.text for part in self.named("text", "s"))
         for part in self.named("text", "s"):
-            if int(part.get("x")) + LETTER * len(part.text.strip()) > PAGE:
+            if int(part.get("x")) + LETTER * len(part.text.strip()) > page:
                 raise Wrong(f"{part.text} hasn't room in a line")
         if re.search(r"\b1 \w+ (?:are|have) ", self.notes):
             raise Wrong(f"one of several: {self.notes}")
         self.check_legend(legend)
         check_fills(self.root)
+        check_colours(self.root)
 
     def named(self, tag, kind):
         """The elements of a class: the first word of the attribute."""
@@ -71,15 +76,26 @@ class Picture:
     def place(self, time):
         """Where a time stands: at an edge where it isn't drawn."""
         since, length = max(0, min(time, self.end) - self.begin), self.end - self.begin
-        return LEFT + (since * WIDTH // length if length else 0)
+        return LEFT + (since * self.width // length if length else 0)
 
     def count(self, pattern):
         found = re.search(pattern, self.notes)
         return int(found[1]) if found else 0
 
     def check_legend(self, legend):
-        after = dict(zip(self.parts, self.parts[1:]))
-        expect("the legend", {use.get("href")[1:]: after[use].text for use in self.uses() if not title_of(use)}, legend)
+        """It has each sign, arrow and kind of box that is drawn, once, with its words, and nothing else."""
+        axis = next((at for at, part in enumerate(self.parts) if part.get("class") == "g"), 0)
+        samples = [(kind_of(part), after.text) for part, after in zip(self.parts[:axis], self.parts[1:]) if kind_of(part)]
+        drawn = {kind_of(part) for part in self.parts[axis:] if title_of(part) or part.get("class") == "u"} & set(legend)
+        expect("the legend", sorted(samples), sorted((kind, legend[kind]) for kind in drawn))
+
+
+def kind_of(part):
+    """The sign of a mark, or the class of an arrow or a box: `b` where it has a task's fill."""
+    if part.tag == SVG + "use":
+        return part.get("href")[1:]
+    kind = part.get("class") if part.tag in (SVG + "path", SVG + "rect") else None
+    return "b" if re.fullmatch(r"b t\d+", kind or "") else kind if kind != "w" else None
 
 
 def check_alone(text, root):
@@ -123,3 +139,15 @@ def check_fills(root):
     for number, (_, *lines) in fills.items():
         if lines == list(fills[(number + 1) % FILLS][1:]):
             raise Wrong(f"fill {number} has the lines of the next one")
+
+
+def signs_colours(root):
+    """The colours of marks and arrows."""
+    shapes = [*root.find(SVG + "defs").findall(SVG + "path"), *(path for marker in root.iter(SVG + "marker") for path in marker)]
+    rules = re.findall(r"\.[pq]\{[^}]*stroke:(#\w+)", root.find(SVG + "style").text)
+    return {shape.get(key) for shape in shapes for key in ("fill", "stroke")} - {None, "none"} | set(rules)
+
+
+def check_colours(root):
+    """No task has the colour of a sign."""
+    expect("colours of tasks and of signs", {colour for colour, *_ in fills_of(root).values()} & signs_colours(root), set())

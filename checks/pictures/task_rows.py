@@ -3,7 +3,7 @@
 import re
 
 from lanes import lanes_of
-from svg import FILLS, HEIGHT, WIDTH, Wrong, expect, read, tenths, title_of
+from svg import FILLS, HEIGHT, Wrong, expect, read, tenths, title_of
 from turns import is_in, rests_of
 
 BOX = re.compile(r"task (\d+) (?:runs on CPU (\d+)|(waits|sleeps)), from (\d+) ns to (\d+) ns")
@@ -43,7 +43,7 @@ def check_rows(picture, timeline, bottom):
     rows = lanes_of(picture, "task ")
     expect("the rows", list(rows), list(range(len(timeline.setup.tasks))))
     boxes = [box_of(picture, rows, row) for row in shown(timeline, picture.begin, picture.end)]
-    least = WIDTH * len(rows) // MOST_BOXES if len(boxes) > MOST_BOXES else 0
+    least = picture.width * len(rows) // MOST_BOXES if len(boxes) > MOST_BOXES else 0
     wanted = [box for box in boxes if box[4] >= least]
     parts = zip(picture.parts, [*picture.parts[1:], None])
     said = [drawn_of(part, after) for part, after in parts if part.tag.endswith("rect") and title_of(part)]

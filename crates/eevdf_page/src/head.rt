@@ -54,6 +54,12 @@ kbd{border:1px solid var(--lines);border-radius:3px;padding:0 .3em}
 #pick{fill:#e6e6e6}
 #same,#nothing{fill:#161616;stroke:#e6e6e6}
 #yield,#rebase{stroke:#e6e6e6}
+#pull,#tip path{fill:#d9a6ff}
+#wake,#begin,#point path{fill:#e0b48a}
+#sleep,#end{fill:#aab8c4}
+#renice,#set{fill:#c9cf6a}
+#picture .p{stroke:#d9a6ff}
+#picture .q{stroke:#e0b48a}
 }
 </style>
 </head>

@@ -3,13 +3,14 @@
 /// The script: plain JavaScript, which reads the data and the picture of its page and nothing else.
 pub(crate) const SCRIPT: &str = r##""use strict";
 
-// The edges of the lanes and the number of fills, as the picture has them.
-const LEFT = 90, WIDTH = 890, RIGHT = LEFT + WIDTH, FILLS = 28;
 const data = JSON.parse(document.querySelector("#data").textContent);
 // So many boxes are drawn in place of coarser ones, and so many nanoseconds fill the width at least: more where numbers are that coarse.
 const MOST_BOXES = 1200, SHORTEST = Math.max(20, data.to_ns / 2 ** 44);
 const picture = document.querySelector("#picture");
 const svg = picture.querySelector("svg");
+// The edges of the lanes, how many steps of an axis have room, and the number of fills, as the picture has them.
+const LEFT = 90, RIGHT = svg.viewBox.baseVal.width - 20, WIDTH = RIGHT - LEFT;
+const STEPS = Math.min(Math.max(Math.floor(WIDTH / 100), 3), 100), FILLS = 28;
 const rows = [...document.querySelectorAll("#stretches tbody tr")];
 const whole = { from: data.from_ns, to: data.to_ns };
 let view = whole;
@@ -109,17 +110,17 @@ function readAxes() {
 function axisOf(top, bottom) {
   const step = stepOf(view.to - view.from), first = Math.ceil(view.from / step);
   const [unit, length] = [["s", 1e9], ["ms", 1e6], ["µs", 1e3], ["ns", 1]].find(([, ns]) => step >= ns);
-  const times = [...Array(10).keys()].map((number) => (first + number) * step);
+  const times = [...Array(STEPS + 2).keys()].map((number) => (first + number) * step);
   return times.filter((time) => time <= view.to).flatMap((time) => {
-    const place = placeOf(time), isLast = place > 950;
+    const place = placeOf(time), isLast = place > RIGHT - 30;
     const label = { class: isLast ? "a r" : "a", x: isLast ? place + 18 : place, y: bottom + 13 };
     return [make("path", { class: "g", d: `M${place} ${top}V${bottom}` }), make("text", label, `${Math.round(time / length)} ${unit}`)];
   });
 }
 
-// The shortest step of 1, 2 or 5 with zeros behind it of which the time has 8 at most.
+// The shortest step of 1, 2 or 5 with zeros behind it of which the time has few enough.
 function stepOf(length) {
-  for (let ten = 1; ; ten *= 10) for (const factor of [1, 2, 5]) if (ten * factor * 8 >= length) return ten * factor;
+  for (let ten = 1; ; ten *= 10) for (const factor of [1, 2, 5]) if (ten * factor * STEPS >= length) return ten * factor;
 }
 
 // Where few enough are seen, the stretches of coarse boxes are drawn one by one over them.

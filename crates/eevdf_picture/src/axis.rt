@@ -3,11 +3,16 @@
 use eevdf_scene::{Scale, Tenths, part};
 use std::alloc::AllocError;
 
-/// At most so many steps are between the edges.
-const MOST_STEPS: u64 = 8;
+/// How far a step is from the next one at least, in units of the picture, so that their labels are apart.
+const LEAST_STEP: u64 = 100;
 
-/// A label further to the right than this place, in tenths, ends a little behind its place, so that it stays in the picture.
-const EDGE: u64 = 9500;
+/// So many steps are between the edges at least, so that one of them has a label, and at most.
+const FEWEST_STEPS: u64 = 3;
+
+const MOST_STEPS: u64 = 100;
+
+/// A label that is nearer to the right edge, in units, ends a little behind its place, so that it stays in the picture.
+const EDGE: u64 = 30;
 
 /// How far behind, in tenths.
 const BEHIND: u64 = 180;
@@ -34,8 +39,8 @@ fn unit_of(step: u64) -> Unit {
 }
 
 /// The shortest step of 1, 2 or 5 with zeros behind it of which there are few enough.
-fn step_of(length: u64) -> u64 {
-    let least = length.div_ceil(MOST_STEPS);
+fn step_of(length: u64, most: u64) -> u64 {
+    let least = length.div_ceil(most.max(1));
     let mut step = 1u64;
     for _zero in 0..18 {
         for factor in [1, 2, 5] {
@@ -56,10 +61,11 @@ pub(crate) fn push_axis(
     top: u64,
     bottom: u64,
 ) -> Result<(), AllocError> {
-    let step = step_of(scale.length()).max(1);
+    let most = (scale.width() / LEAST_STEP).clamp(FEWEST_STEPS, MOST_STEPS);
+    let step = step_of(scale.length(), most).max(1);
     let unit = unit_of(step);
     let first = scale.from.div_ceil(step);
-    for number in 0..=MOST_STEPS + 1 {
+    for number in 0..most.saturating_add(2) {
         let time = first.saturating_add(number).saturating_mul(step);
         if time <= scale.to {
             push_step(text, scale, time, unit, top, bottom)?;
@@ -81,7 +87,7 @@ fn push_step(
     let below = bottom.saturating_add(13);
     let name = unit.name;
     writeln!(text, "<path class=\"g\" d=\"M{place} {top}V{bottom}\"/>")?;
-    if place.0 > EDGE {
+    if place.0 > scale.right().saturating_sub(EDGE).saturating_mul(10) {
         let end = Tenths(place.0.saturating_add(BEHIND));
         write!(text, "<text class=\"a r\" x=\"{end}\"")?;
     } else {

@@ -51,35 +51,28 @@ impl Group {
         })
     }
 
-    /// Writes the box, and gives how many stretches are joined in it.
+    /// Whether it is of one stretch, whose task isn't chosen.
+    pub(crate) fn is_of_other(&self, view: &View) -> bool {
+        self.count == 1 && !view.tasks.has(self.first.task.index())
+    }
+
+    /// Writes the box.
     pub(crate) fn push(
         &self,
         text: &mut String,
         top: u64,
         scale: &Scale,
         view: &View,
-    ) -> Result<u64, AllocError> {
-        let is_chosen = view.tasks.has(self.first.task.index());
-        self.push_box(text, top, scale, is_chosen)?;
-        Ok(if self.count > 1 { self.count } else { 0 })
-    }
-
-    fn push_box(
-        &self,
-        text: &mut String,
-        top: u64,
-        scale: &Scale,
-        is_chosen: bool,
     ) -> Result<(), AllocError> {
         let begin = scale.place(self.first.begin);
         let width = Tenths(scale.place(self.end).0.saturating_sub(begin.0));
         write!(text, "<rect class=\"b ")?;
         if self.count > 1 {
             write!(text, "m")?;
-        } else if is_chosen {
-            write!(text, "t{}", self.first.task.get() % FILLS)?;
-        } else {
+        } else if self.is_of_other(view) {
             write!(text, "o")?;
+        } else {
+            write!(text, "t{}", self.first.task.get() % FILLS)?;
         }
         write!(
             text,

@@ -2,8 +2,8 @@
 
 use crate::boxes::FILLS;
 use eevdf_queue::TaskId;
-use eevdf_scene::{Curve, Point, Rest, Scale, Tenths, part};
-use std::alloc::AllocError;
+use eevdf_scene::{Curve, Point, Rest, Scale, Scene, Tenths, part};
+use std::alloc::{AllocError, Global};
 
 /// How high a panel is above its line of 0, and below it, in units of the picture.
 const HALF: u64 = 24;
@@ -17,46 +17,70 @@ const HEIGHT: u64 = 2 * HALF;
 /// A sleep that is so wide at least is drawn, in tenths.
 const LEAST_SLEEP: u64 = 30;
 
-/// Writes the panel of a curve, and gives how many sleeps of its task are too short to be drawn.
-pub(crate) fn push_panel(
-    text: &mut String,
-    curve: &Curve,
-    rests: &[Rest],
-    scale: &Scale,
-    top: u64,
-) -> Result<u64, AllocError> {
-    let zero = top.saturating_add(HALF);
-    let bottom = zero.saturating_add(HALF);
-    let height = curve.height();
-    push_shade(text, top)?;
-    let left_out = push_sleeps(text, curve.task, rests, scale, top)?;
-    push_lines(text, zero, bottom)?;
-    push_labels(text, curve, top, zero, bottom, height)?;
-    push_curve(text, curve, scale, zero, height)?;
-    Ok(left_out)
+/// A sleep that is drawn in the panel of its task.
+#[derive(Clone, Copy)]
+pub(crate) struct Sleep {
+    task: TaskId,
+    left: Tenths,
+    width: Tenths,
 }
 
-/// Writes the times in which a task sleeps, and gives how many are too short to be drawn.
-fn push_sleeps(
-    text: &mut String,
-    task: TaskId,
-    rests: &[Rest],
-    scale: &Scale,
-    top: u64,
-) -> Result<u64, AllocError> {
-    let mut left_out = 0u64;
-    for rest in rests {
-        if rest.task == task && rest.sleeps && scale.shows(rest.begin, rest.end) {
-            let begin = scale.place(rest.begin);
-            let width = Tenths(scale.place(rest.end).0.saturating_sub(begin.0));
-            if width.0 < LEAST_SLEEP {
-                left_out = left_out.saturating_add(1);
-            } else {
-                push_sleep(text, begin, width, top)?;
+/// The sleeps that are drawn of the tasks that have curves, and how many are too short for that.
+#[derive(Drop)]
+pub(crate) struct Sleeps {
+    pub drawn: Vec<Sleep>,
+    pub short: u64,
+}
+
+pub(crate) fn sleeps_of(alloc: Global, scene: &Scene<'_>) -> Result<Sleeps, AllocError> {
+    let mut sleeps = Sleeps {
+        drawn: Vec::new(alloc),
+        short: 0,
+    };
+    for curve in &scene.lags.curves {
+        for rest in &scene.turns.rests {
+            if rest.task == curve.task && rest.sleeps && scene.scale.shows(rest.begin, rest.end) {
+                sleeps.add(rest, &scene.scale)?;
             }
         }
     }
-    Ok(left_out)
+    Ok(sleeps)
+}
+
+impl Sleeps {
+    fn add(&mut self, rest: &Rest, scale: &Scale) -> Result<(), AllocError> {
+        let left = scale.place(rest.begin);
+        let width = Tenths(scale.place(rest.end).0.saturating_sub(left.0));
+        if width.0 < LEAST_SLEEP {
+            self.short = self.short.saturating_add(1);
+        } else {
+            let task = rest.task;
+            self.drawn.push(Sleep { task, left, width })?;
+        }
+        Ok(())
+    }
+}
+
+/// Writes the panel of a curve.
+pub(crate) fn push_panel(
+    text: &mut String,
+    curve: &Curve,
+    sleeps: &Sleeps,
+    scale: &Scale,
+    top: u64,
+) -> Result<(), AllocError> {
+    let zero = top.saturating_add(HALF);
+    let bottom = zero.saturating_add(HALF);
+    let height = curve.height();
+    push_shade(text, scale, top)?;
+    for sleep in &sleeps.drawn {
+        if sleep.task == curve.task {
+            push_sleep(text, sleep.left, sleep.width, top)?;
+        }
+    }
+    push_lines(text, scale, zero, bottom)?;
+    push_labels(text, curve, top, zero, bottom, height)?;
+    push_curve(text, curve, scale, zero, height)
 }
 
 fn push_sleep(text: &mut String, begin: Tenths, width: Tenths, top: u64) -> Result<(), AllocError> {
@@ -67,8 +91,8 @@ fn push_sleep(text: &mut String, begin: Tenths, width: Tenths, top: u64) -> Resu
 }
 
 /// The side above 0, on which a task is eligible, is shaded.
-fn push_shade(text: &mut String, top: u64) -> Result<(), AllocError> {
-    let (left, width) = (Scale::LEFT, Scale::WIDTH);
+fn push_shade(text: &mut String, scale: &Scale, top: u64) -> Result<(), AllocError> {
+    let (left, width) = (Scale::LEFT, scale.width());
     writeln!(
         text,
         "<rect class=\"e\" x=\"{left}\" y=\"{top}\" width=\"{width}\" height=\"{HALF}\"/>"
@@ -76,8 +100,8 @@ fn push_shade(text: &mut String, top: u64) -> Result<(), AllocError> {
 }
 
 /// Writes the line of 0, and one at the bottom.
-fn push_lines(text: &mut String, zero: u64, bottom: u64) -> Result<(), AllocError> {
-    let (left, right) = (Scale::LEFT, Scale::RIGHT);
+fn push_lines(text: &mut String, scale: &Scale, zero: u64, bottom: u64) -> Result<(), AllocError> {
+    let (left, right) = (Scale::LEFT, scale.right());
     writeln!(
         text,
         "<path class=\"z\" d=\"M{left} {zero}H{right}M{left} {bottom}H{right}\"/>"

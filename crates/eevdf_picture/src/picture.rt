@@ -1,59 +1,25 @@
 //! The whole picture: what stands above the lanes, below them and around them.
 
 use crate::axis::push_axis;
+use crate::head::{Head, Key, push_lines};
 use crate::lanes::Lanes;
-use crate::panels::{PITCH, push_panel};
-use crate::signs::SIGNS;
+use crate::panels::{PITCH, Sleeps, push_panel, sleeps_of};
 use crate::style::push_style;
 use crate::task_rows::TaskRows;
 use eevdf_scene::{COLUMNS, MOST_CURVES, Scene};
 use std::alloc::{AllocError, Global};
 use std::fmt;
 
-/// The top of the first lane, in units of the picture.
-const TOP: u64 = 136;
-
-/// Where the notes stand of what is coarser: one, and one more below it, in units.
-const NOTE: u64 = 40;
-
-const NEXT_NOTE: u64 = 55;
-
-/// How wide a picture is, in units.
-const PAGE: u64 = 1000;
-
-/// From the bottom of the last lane to the axis, and from the top of the axis' lines to the first lane, in units.
+/// From the bottom of the last lane to the axis, and from the top of the axis' lines to the first lane, in units of the picture.
 const MARGIN: u64 = 6;
 
-/// From the axis below the lanes to the first panel, where the panels' heading is, in units.
-const HEADING: u64 = 46;
+/// From the axis below the lanes to the heading of the panels, and from that to the first of these, in units.
+const HEADING: u64 = 36;
+
+const BELOW: u64 = 10;
 
 /// From the end of the panels to the bottom of the picture, where their axis has its numbers, in units.
 const FOOT: u64 = 30;
-
-/// How far an entry of the legend is from the next one, in units.
-const ENTRY: u64 = 122;
-
-/// So many entries a row of the legend has.
-const ENTRIES: u64 = 8;
-
-/// How far the second row is below the first one, in units.
-const SECOND_ROW: u64 = 18;
-
-/// The third row of the legend: the arrows, and the boxes that aren't of one chosen task.
-const KEYS: &str =
-    "<path class=\"p\" d=\"M8 108H26\"/><text class=\"s\" x=\"32\" y=\"112\">pulled from</text>
-<path class=\"q\" d=\"M130 108H148\"/><text class=\"s\" x=\"154\" y=\"112\">woken from</text>
-<rect class=\"b m\" x=\"252\" y=\"102\" width=\"12\" height=\"12\"/><text class=\"s\" x=\"269\" y=\"112\">several stretches</text>
-<rect class=\"b o\" x=\"396\" y=\"102\" width=\"12\" height=\"12\"/><text class=\"s\" x=\"413\" y=\"112\">task not chosen</text>
-<rect class=\"u\" x=\"540\" y=\"102\" width=\"12\" height=\"12\"/><text class=\"s\" x=\"557\" y=\"112\">task sleeps</text>
-";
-
-/// The legend of rows of tasks.
-const TASK_KEYS: &str =
-    "<rect class=\"b t0\" x=\"10\" y=\"66\" width=\"24\" height=\"12\"/><text class=\"s\" x=\"39\" y=\"76\">runs, on the CPU of the number</text>
-<rect class=\"v\" x=\"252\" y=\"66\" width=\"24\" height=\"12\"/><text class=\"s\" x=\"281\" y=\"76\">waits</text>
-<rect class=\"u\" x=\"396\" y=\"66\" width=\"24\" height=\"12\"/><text class=\"s\" x=\"425\" y=\"76\">sleeps</text>
-";
 
 /// The picture of a scene, by lanes or by rows of tasks, as its view says. It is refused memory alone.
 pub fn picture_of(alloc: Global, scene: &Scene<'_>) -> Result<Vec<u8>, AllocError> {
@@ -69,50 +35,125 @@ pub fn picture_of(alloc: Global, scene: &Scene<'_>) -> Result<Vec<u8>, AllocErro
 
 /// Writes all of a picture that has a lane for each CPU.
 fn push_cpus(alloc: Global, text: &mut String, scene: &Scene<'_>) -> Result<(), AllocError> {
-    let cpus = scene.setup.cpus();
-    let mut lanes = Lanes::of(alloc, cpus, scene.moments, &scene.scale, scene.view, TOP)?;
-    let bottom = lanes.bottom().max(TOP).saturating_add(MARGIN);
-    push_around(text, scene, bottom)?;
-    lanes.push_boxes(text, &scene.turns.stretches, &scene.scale, scene.view)?;
-    lanes.push_marks(text, &scene.scale)?;
-    push_panels(text, scene, bottom.saturating_add(HEADING))?;
-    push_notes(text, scene, &lanes)
+    let mut lanes = Lanes::of(alloc, scene)?;
+    let sleeps = sleeps_of(alloc, scene)?;
+    let mut head = head_of(alloc, scene)?;
+    say_lanes(alloc, &mut head, &lanes)?;
+    say_lags(alloc, &mut head, scene)?;
+    lanes.add_keys(&mut head, scene.view)?;
+    if !sleeps.drawn.is_empty() {
+        head.add_key(Key::Box("u"), "task sleeps")?;
+    }
+    lanes.stack(head.bottom());
+    push_around(alloc, text, scene, &head, lanes.bottom(), &sleeps)?;
+    lanes.push_boxes(text, &scene.scale, scene.view)?;
+    lanes.push_marks(text, &scene.scale)
 }
 
 /// Writes all of one that has a row for each task.
 fn push_tasks(alloc: Global, text: &mut String, scene: &Scene<'_>) -> Result<(), AllocError> {
-    let mut rows = TaskRows::of(alloc, scene, TOP)?;
-    let bottom = rows.bottom().max(TOP).saturating_add(MARGIN);
-    push_around(text, scene, bottom)?;
-    rows.push(text, scene)?;
-    push_panels(text, scene, bottom.saturating_add(HEADING))?;
+    let mut rows = TaskRows::of(alloc, scene)?;
+    let sleeps = sleeps_of(alloc, scene)?;
+    let mut head = head_of(alloc, scene)?;
     let left_out = rows.left_out;
     if left_out > 0 {
         let boxes = if left_out == 1 { "box is" } else { "boxes are" };
-        writeln!(
-            text,
-            "<text class=\"s\" x=\"10\" y=\"{NOTE}\">Drawn coarser: {left_out} {boxes} too narrow to be drawn.</text>"
-        )?;
+        let words = format!(in alloc; "Drawn coarser: {left_out} {boxes} too narrow to be drawn.")?;
+        head.say("s", words.as_str())?;
     }
-    push_lag_note(text, scene, NEXT_NOTE)
+    say_lags(alloc, &mut head, scene)?;
+    rows.add_keys(&mut head, &sleeps)?;
+    rows.stack(head.bottom());
+    push_around(alloc, text, scene, &head, rows.bottom(), &sleeps)?;
+    rows.push(text, scene)
 }
 
-/// Writes what stands around the lanes, whose axis is at this height: the head, the legend and the axes.
-fn push_around(text: &mut String, scene: &Scene<'_>, bottom: u64) -> Result<(), AllocError> {
-    let panels = bottom.saturating_add(HEADING);
+/// Writes what stands around the lanes, which end at this height: the head, the axes and the panels.
+fn push_around(
+    alloc: Global,
+    text: &mut String,
+    scene: &Scene<'_>,
+    head: &Head,
+    bottom: u64,
+    sleeps: &Sleeps,
+) -> Result<(), AllocError> {
+    let bottom = bottom.max(head.bottom()).saturating_add(MARGIN);
+    let mut heading = String::new(alloc);
+    let base = push_heading(alloc, &mut heading, scene, bottom, sleeps)?;
+    let panels = base.saturating_add(BELOW);
     let count = scene.lags.curves.len() as u64;
     let end = panels.saturating_add(count.saturating_mul(PITCH));
-    push_head(text, scene, end.saturating_add(FOOT))?;
-    push_grid(text, scene, bottom, end)
+    push_frame(text, scene, end.saturating_add(FOOT))?;
+    text.push_str(head.text())?;
+    push_axis(
+        text,
+        &scene.scale,
+        head.bottom().saturating_sub(MARGIN),
+        bottom,
+    )?;
+    text.push_str(heading.as_str())?;
+    push_panels(text, scene, sleeps, panels, end)
 }
 
-fn push_head(text: &mut String, scene: &Scene<'_>, height: u64) -> Result<(), AllocError> {
-    let (cpus, tasks, deeds) = (cpus_shown(scene), tasks_shown(scene), deeds_shown(scene));
+/// Writes the heading of the panels, where there are some, and gives the base of its last line.
+fn push_heading(
+    alloc: Global,
+    text: &mut String,
+    scene: &Scene<'_>,
+    bottom: u64,
+    sleeps: &Sleeps,
+) -> Result<u64, AllocError> {
+    let base = bottom.saturating_add(HEADING);
+    if scene.lags.curves.is_empty() {
+        return Ok(base);
+    }
+    let mut words = String::from_str(
+        alloc,
+        "Lags in nanoseconds of virtual time: above 0 a task is eligible (shaded)",
+    )?;
+    if !sleeps.drawn.is_empty() {
+        words.push_str("; it sleeps where a panel is hatched")?;
+    }
+    if sleeps.short > 0 {
+        let are = if sleeps.short == 1 {
+            "sleep is"
+        } else {
+            "sleeps are"
+        };
+        write!(words, "; {} {are} too short", sleeps.short)?;
+    }
+    push_lines(text, "s", words.as_str(), scene.scale.page, base)
+}
+
+/// Writes the panels from a top to an end, with an axis below them.
+fn push_panels(
+    text: &mut String,
+    scene: &Scene<'_>,
+    sleeps: &Sleeps,
+    top: u64,
+    end: u64,
+) -> Result<(), AllocError> {
+    if scene.lags.curves.is_empty() {
+        return Ok(());
+    }
+    push_axis(text, &scene.scale, top.saturating_sub(MARGIN), end)?;
+    let mut top = top;
+    for curve in &scene.lags.curves {
+        push_panel(text, curve, sleeps, &scene.scale, top)?;
+        top = top.saturating_add(PITCH);
+    }
+    Ok(())
+}
+
+/// Writes what a picture of this height begins with: its title, its styles and its ground.
+fn push_frame(text: &mut String, scene: &Scene<'_>, height: u64) -> Result<(), AllocError> {
+    let page = scene.scale.page;
+    let (cpus, tasks) = (cpus_shown(scene), tasks_shown(scene));
     let of_cpus = if cpus.all == 1 { "CPU" } else { "CPUs" };
     let of_tasks = if tasks.all == 1 { "task" } else { "tasks" };
     write!(
         text,
-        "<svg xmlns=\"http://www.w3.org/2000/svg\" viewBox=\"0 0 {PAGE} {height}\" width=\"{PAGE}\" height=\"{height}\" "
+        "<svg xmlns=\"http://www.w3.org/2000/svg\" viewBox=\"0 0 {page} {height}\" width=\"{page}\" height=\"{height}\" "
     )?;
     writeln!(
         text,
@@ -125,17 +166,19 @@ fn push_head(text: &mut String, scene: &Scene<'_>, height: u64) -> Result<(), Al
     push_style(text)?;
     writeln!(
         text,
-        "<rect class=\"w\" width=\"{PAGE}\" height=\"{height}\"/>"
+        "<rect class=\"w\" width=\"{page}\" height=\"{height}\"/>"
+    )
+}
+
+/// The head, with its first line.
+fn head_of(alloc: Global, scene: &Scene<'_>) -> Result<Head, AllocError> {
+    let (cpus, tasks, deeds) = (cpus_shown(scene), tasks_shown(scene), deeds_shown(scene));
+    let words = format!(in alloc;
+        "CPUs {cpus}, tasks {tasks}, deeds {deeds}: what ran when, by the time that ticks took"
     )?;
-    writeln!(
-        text,
-        "<text class=\"h\" x=\"10\" y=\"22\">CPUs {cpus}, tasks {tasks}, deeds {deeds}: what ran when, by the time that ticks took</text>"
-    )?;
-    if scene.view.by_task {
-        text.push_str(TASK_KEYS)
-    } else {
-        push_legend(text)
-    }
+    let mut head = Head::new(alloc, scene.scale.page);
+    head.say("h", words.as_str())?;
+    Ok(head)
 }
 
 /// How many of all are shown.
@@ -184,121 +227,48 @@ fn deeds_shown(scene: &Scene<'_>) -> Part {
     }
 }
 
-fn push_legend(text: &mut String) -> Result<(), AllocError> {
-    for (number, (shape, words)) in SIGNS.iter().enumerate() {
-        push_sign(text, number as u64, shape, words)?;
-    }
-    text.push_str(KEYS)
-}
-
-/// Writes an entry of the legend: the shape of a sign, and the words beside it.
-fn push_sign(text: &mut String, number: u64, shape: &str, words: &str) -> Result<(), AllocError> {
-    let (column, row) = (number % ENTRIES, number / ENTRIES);
-    let place = column.saturating_mul(ENTRY).saturating_add(16);
-    let after = place.saturating_add(9);
-    let middle = row.saturating_mul(SECOND_ROW).saturating_add(72);
-    let base = middle.saturating_add(4);
-    writeln!(
-        text,
-        "<use href=\"#{shape}\" x=\"{place}\" y=\"{middle}\"/><text class=\"s\" x=\"{after}\" y=\"{base}\">{words}</text>"
-    )
-}
-
-/// Writes the axis below the lanes, and one more below the panels.
-fn push_grid(
-    text: &mut String,
-    scene: &Scene<'_>,
-    bottom: u64,
-    end: u64,
-) -> Result<(), AllocError> {
-    push_axis(text, &scene.scale, TOP.saturating_sub(MARGIN), bottom)?;
-    if scene.lags.curves.is_empty() {
-        return Ok(());
-    }
-    push_axis(
-        text,
-        &scene.scale,
-        bottom.saturating_add(HEADING - MARGIN),
-        end,
-    )
-}
-
-fn push_panels(text: &mut String, scene: &Scene<'_>, top: u64) -> Result<(), AllocError> {
-    let head = top.saturating_sub(10);
-    let mut top = top;
-    let mut left_out = 0u64;
-    for curve in &scene.lags.curves {
-        let short = push_panel(text, curve, &scene.turns.rests, &scene.scale, top)?;
-        left_out = left_out.saturating_add(short);
-        top = top.saturating_add(PITCH);
-    }
-    if scene.lags.curves.is_empty() {
-        return Ok(());
-    }
-    write!(
-        text,
-        "<text class=\"s\" x=\"10\" y=\"{head}\">Lags in nanoseconds of virtual time: above 0 a task is eligible (shaded); "
-    )?;
-    write!(text, "it sleeps where a panel is hatched")?;
-    if left_out > 0 {
-        let sleeps = if left_out == 1 {
-            "sleep is"
-        } else {
-            "sleeps are"
-        };
-        write!(text, "; {left_out} {sleeps} too short")?;
-    }
-    writeln!(text, "</text>")
-}
-
-/// Says what is left out or drawn coarser: in one line of lanes, and in one of lags.
-fn push_notes(text: &mut String, scene: &Scene<'_>, lanes: &Lanes) -> Result<(), AllocError> {
-    let is_whole = lanes.joined == 0 && lanes.left_out == 0;
-    if !is_whole {
-        push_lane_note(text, lanes)?;
-    }
-    let height = if is_whole { NOTE } else { NEXT_NOTE };
-    push_lag_note(text, scene, height)
-}
-
-fn push_lane_note(text: &mut String, lanes: &Lanes) -> Result<(), AllocError> {
-    write!(text, "<text class=\"s\" x=\"10\" y=\"{NOTE}\">")?;
-    if lanes.joined > 0 {
+/// Says what of the lanes is left out or drawn coarser.
+fn say_lanes(alloc: Global, head: &mut Head, lanes: &Lanes) -> Result<(), AllocError> {
+    let (joined, left_out) = (lanes.joined(), lanes.left_out);
+    let mut words = String::new(alloc);
+    if joined > 0 {
         write!(
-            text,
-            "Drawn coarser: {} stretches are in grey boxes of several. ",
-            lanes.joined
+            words,
+            "Drawn coarser: {joined} stretches are in grey boxes of several. "
         )?;
     }
-    if lanes.left_out > 0 {
-        let marks = if lanes.left_out == 1 {
+    if left_out > 0 {
+        let marks = if left_out == 1 {
             "mark has"
         } else {
             "marks have"
         };
-        write!(text, "{} {marks} no room. ", lanes.left_out)?;
+        write!(words, "{left_out} {marks} no room.")?;
     }
-    writeln!(text, "</text>")
+    if joined > 0 || left_out > 0 {
+        head.say("s", words.as_str())?;
+    }
+    Ok(())
 }
 
-fn push_lag_note(text: &mut String, scene: &Scene<'_>, height: u64) -> Result<(), AllocError> {
+/// Says what of the lags is.
+fn say_lags(alloc: Global, head: &mut Head, scene: &Scene<'_>) -> Result<(), AllocError> {
     let shown = scene.shown.tasks();
-    let thinned = scene.lags.are_thinned();
-    if !thinned && shown <= MOST_CURVES {
-        return Ok(());
-    }
-    write!(text, "<text class=\"s\" x=\"10\" y=\"{height}\">")?;
-    if thinned {
+    let mut words = String::new(alloc);
+    if scene.lags.are_thinned() {
         write!(
-            text,
+            words,
             "Curves keep 4 lags of each 1/{COLUMNS} of the width. "
         )?;
     }
     if shown > MOST_CURVES {
         write!(
-            text,
-            "Lags are those of the first {MOST_CURVES} of {shown} tasks by time run; --task chooses others. "
+            words,
+            "Lags are those of the first {MOST_CURVES} of {shown} tasks by time run; --task chooses others."
         )?;
     }
-    writeln!(text, "</text>")
+    if scene.lags.are_thinned() || shown > MOST_CURVES {
+        head.say("s", words.as_str())?;
+    }
+    Ok(())
 }

@@ -7,10 +7,10 @@ use std::fmt;
 
 /// What a mark shows: the place of a row in `SIGNS`.
 #[derive(Clone, Copy, PartialEq, Eq)]
-pub(crate) struct Sign(usize);
+pub(crate) struct Sign(pub usize);
 
 /// All signs, in the order of the legend: the name of the shape, and the words beside it.
-pub(crate) const SIGNS: [(&'static str, &'static str); 13] = [
+const SIGNS: [(&'static str, &'static str); Sign::COUNT] = [
     ("pick", "pick"),
     ("same", "pick of the same"),
     ("wake", "wake"),
@@ -54,12 +54,20 @@ impl Sign {
     const REBASE: Sign = Sign(11);
     /// One that found nothing to do: nobody to pick or to charge, or no task to pull.
     const NOTHING: Sign = Sign(12);
+
+    /// How many signs there are.
+    pub(crate) const COUNT: usize = 13;
+
+    /// Its entry in the legend.
+    pub(crate) fn key(&self) -> (&'static str, &'static str) {
+        SIGNS[self.0 % SIGNS.len()]
+    }
 }
 
 /// The name of the sign's shape.
 impl fmt::Display for Sign {
     fn fmt<W: fmt::Write>(&self, f: &mut fmt::Formatter<W>) -> fmt::Result {
-        let (shape, _words) = SIGNS[self.0 % SIGNS.len()];
+        let (shape, _words) = self.key();
         f.write_str(shape)
     }
 }

@@ -30,28 +30,29 @@ text{font-size:12px;fill:#000}
 .g{stroke:#ccc;stroke-width:1}
 .z{stroke:#999;stroke-width:1}
 .k{fill:none;stroke:#000;stroke-width:1.3}
-.p{fill:none;stroke:#d55e00;stroke-width:1.5;marker-end:url(#tip)}
-.q{fill:none;stroke:#009e73;stroke-width:1.5;stroke-dasharray:5 2;marker-end:url(#point)}
+.p{fill:none;stroke:#7b1fa2;stroke-width:1.5;marker-end:url(#tip)}
+.q{fill:none;stroke:#8a4b08;stroke-width:1.5;stroke-dasharray:5 2;marker-end:url(#point)}
 ";
 
+/// The shapes have colours that no task has. The head of an arrow is shorter than what is between two rows of marks.
 const SHAPES: &str =
     "<pattern id=\"asleep\" width=\"6\" height=\"6\" patternUnits=\"userSpaceOnUse\"><rect width=\"6\" height=\"6\" fill=\"#fff\"/>\
 <path d=\"M0 6L6 0\" stroke=\"#999\" stroke-width=\"1\"/></pattern>
 <pattern id=\"waiting\" width=\"4\" height=\"4\" patternUnits=\"userSpaceOnUse\"><rect width=\"4\" height=\"4\" fill=\"#fff\"/>\
 <path d=\"M1 0V4\" stroke=\"#b00\" stroke-width=\"1.5\"/></pattern>
-<marker id=\"tip\" viewBox=\"0 0 6 6\" refX=\"5\" refY=\"3\" markerWidth=\"6\" markerHeight=\"6\" orient=\"auto\">\
-<path d=\"M0 0L6 3L0 6Z\" fill=\"#d55e00\"/></marker>
-<marker id=\"point\" viewBox=\"0 0 6 6\" refX=\"5\" refY=\"3\" markerWidth=\"6\" markerHeight=\"6\" orient=\"auto\">\
-<path d=\"M0 0L6 3L0 6Z\" fill=\"#009e73\"/></marker>
+<marker id=\"tip\" viewBox=\"0 0 6 6\" refX=\"4.5\" refY=\"3\" markerWidth=\"6\" markerHeight=\"6\" markerUnits=\"userSpaceOnUse\" \
+orient=\"auto\"><path d=\"M0 0L6 3L0 6Z\" fill=\"#7b1fa2\"/></marker>
+<marker id=\"point\" viewBox=\"0 0 6 6\" refX=\"4.5\" refY=\"3\" markerWidth=\"6\" markerHeight=\"6\" markerUnits=\"userSpaceOnUse\" \
+orient=\"auto\"><path d=\"M0 0L6 3L0 6Z\" fill=\"#8a4b08\"/></marker>
 <path id=\"pick\" d=\"M-3.5 -4L4 0L-3.5 4Z\"/>
 <path id=\"same\" d=\"M-3 -3.5L3.5 0L-3 3.5Z\" fill=\"#fff\" stroke=\"#000\"/>
-<path id=\"wake\" d=\"M-4 3.5L4 3.5L0 -4Z\" fill=\"#009e73\"/>
-<path id=\"sleep\" d=\"M-4 -3.5L4 -3.5L0 4Z\" fill=\"#0072b2\"/>
-<path id=\"pull\" d=\"M0 -4.5L4.5 0L0 4.5L-4.5 0Z\" fill=\"#d55e00\"/>
-<path id=\"renice\" d=\"M-3.5 -3.5H3.5V3.5H-3.5Z\" fill=\"#cc79a7\" stroke=\"#000\" stroke-width=\".5\"/>
-<path id=\"begin\" d=\"M-1.5 -4H1.5V-1.5H4V1.5H1.5V4H-1.5V1.5H-4V-1.5H-1.5Z\" fill=\"#009e73\"/>
-<path id=\"end\" d=\"M-4 -1.5H4V1.5H-4Z\" fill=\"#0072b2\"/>
-<path id=\"set\" d=\"M-3.5 -3.5H3.5V3.5H-3.5ZM-1.5 -1.5V1.5H1.5V-1.5Z\" fill=\"#cc79a7\" stroke=\"#000\" stroke-width=\".5\"/>
+<path id=\"wake\" d=\"M-4 3.5L4 3.5L0 -4Z\" fill=\"#8a4b08\"/>
+<path id=\"sleep\" d=\"M-4 -3.5L4 -3.5L0 4Z\" fill=\"#4d5a66\"/>
+<path id=\"pull\" d=\"M0 -4.5L4.5 0L0 4.5L-4.5 0Z\" fill=\"#7b1fa2\"/>
+<path id=\"renice\" d=\"M-3.5 -3.5H3.5V3.5H-3.5Z\" fill=\"#6b7000\" stroke=\"#000\" stroke-width=\".5\"/>
+<path id=\"begin\" d=\"M-1.5 -4H1.5V-1.5H4V1.5H1.5V4H-1.5V1.5H-4V-1.5H-1.5Z\" fill=\"#8a4b08\"/>
+<path id=\"end\" d=\"M-4 -1.5H4V1.5H-4Z\" fill=\"#4d5a66\"/>
+<path id=\"set\" d=\"M-3.5 -3.5H3.5V3.5H-3.5ZM-1.5 -1.5V1.5H1.5V-1.5Z\" fill=\"#6b7000\" stroke=\"#000\" stroke-width=\".5\"/>
 <path id=\"rebase\" d=\"M-4 3.5H4M0 -4V2M-3 -1L0 2L3 -1\" fill=\"none\" stroke=\"#000\" stroke-width=\"1.6\"/>
 <path id=\"yield\" d=\"M-2.5 -4V4M2.5 -4V4\" fill=\"none\" stroke=\"#000\" stroke-width=\"2\"/>
 <path id=\"refused\" d=\"M-3.5 -3.5L3.5 3.5M-3.5 3.5L3.5 -3.5\" fill=\"none\" stroke=\"#b00\" stroke-width=\"1.6\"/>

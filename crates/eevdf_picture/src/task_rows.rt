@@ -1,6 +1,8 @@
 //! The rows of tasks: when each runs, waits and sleeps.
 
 use crate::boxes::{BOX, FILLS};
+use crate::head::{Head, Key};
+use crate::panels::Sleeps;
 use eevdf_queue::TaskId;
 use eevdf_scene::{Rest, Scale, Scene, Stretch, Tenths, part};
 use std::alloc::{AllocError, Global};
@@ -20,52 +22,111 @@ const MOST_BOXES: usize = 1200;
 /// A box that is so wide has room for the number of a CPU, in tenths.
 const ROOM: u64 = 220;
 
-/// The rows of the chosen tasks, one below the other.
+/// The rows of the chosen tasks, one below the other, and what is drawn in them.
 #[derive(Drop)]
 pub(crate) struct TaskRows {
-    // of each task, where it is chosen
+    // of each task how far its row is below the first one, where it is chosen
     tops: Vec<Option<u64>>,
-    bottom: u64,
+    top: u64,
+    height: u64,
     // how wide a box is at least, in tenths
     least: u64,
     /// How many boxes are too narrow to be drawn.
     pub left_out: u64,
+    // the fill of a task that runs, and whether one waits or sleeps
+    runs: Option<u64>,
+    waits: bool,
+    sleeps: bool,
 }
 
 impl TaskRows {
-    /// Finds places for the rows, from a top on.
-    pub(crate) fn of(alloc: Global, scene: &Scene<'_>, top: u64) -> Result<TaskRows, AllocError> {
+    /// Finds places for the rows, and which boxes are drawn.
+    pub(crate) fn of(alloc: Global, scene: &Scene<'_>) -> Result<TaskRows, AllocError> {
         let mut rows = TaskRows {
             tops: Vec::new(alloc),
-            bottom: top,
+            top: 0,
+            height: 0,
             least: 0,
             left_out: 0,
+            runs: None,
+            waits: false,
+            sleeps: false,
         };
         for task in 0..scene.setup.tasks() {
             if scene.view.tasks.has(task) {
-                rows.tops.push(Some(rows.bottom))?;
-                rows.bottom = rows.bottom.saturating_add(PITCH);
+                rows.tops.push(Some(rows.height))?;
+                rows.height = rows.height.saturating_add(PITCH);
             } else {
                 rows.tops.push(None)?;
             }
         }
         if boxes_shown(scene) > MOST_BOXES {
             let chosen = scene.view.tasks.count(scene.setup.tasks()) as u64;
-            rows.least = part(10 * Scale::WIDTH, chosen, MOST_BOXES as u64);
+            let all = scene.scale.width().saturating_mul(10);
+            rows.least = part(all, chosen, MOST_BOXES as u64);
         }
+        rows.look(scene);
         Ok(rows)
+    }
+
+    /// Counts what is left out, and sees what is drawn.
+    fn look(&mut self, scene: &Scene<'_>) {
+        for rest in &scene.turns.rests {
+            if rest.is_chosen(&scene.scale, scene.view) {
+                let is_drawn = self.look_at(rest.begin, rest.end, &scene.scale);
+                self.waits = self.waits || is_drawn && !rest.sleeps;
+                self.sleeps = self.sleeps || is_drawn && rest.sleeps;
+            }
+        }
+        for stretch in &scene.turns.stretches {
+            if stretch.is_chosen(&scene.scale, scene.view)
+                && self.look_at(stretch.begin, stretch.end, &scene.scale)
+            {
+                self.runs = Some(stretch.task.get() % FILLS);
+            }
+        }
+    }
+
+    /// Whether a box is wide enough, and if not counts it.
+    fn look_at(&mut self, begin: u64, end: u64, scale: &Scale) -> bool {
+        let is_drawn = width_of(begin, end, scale).0 >= self.least;
+        if !is_drawn {
+            self.left_out = self.left_out.saturating_add(1);
+        }
+        is_drawn
+    }
+
+    /// Adds what is drawn to the legend.
+    pub(crate) fn add_keys(&self, head: &mut Head, sleeps: &Sleeps) -> Result<(), AllocError> {
+        if let Some(fill) = self.runs {
+            head.add_key(Key::Fill(fill), "runs, on the CPU of the number")?;
+        }
+        if self.waits {
+            head.add_key(Key::Box("v"), "waits")?;
+        }
+        if self.sleeps || !sleeps.drawn.is_empty() {
+            head.add_key(Key::Box("u"), "sleeps")?;
+        }
+        Ok(())
+    }
+
+    /// Puts the first row at a top.
+    pub(crate) fn stack(&mut self, top: u64) {
+        self.top = top;
     }
 
     /// The bottom of the last row.
     pub(crate) fn bottom(&self) -> u64 {
-        self.bottom.saturating_sub(PITCH - BOX)
+        self.top
+            .saturating_add(self.height)
+            .saturating_sub(PITCH - BOX)
     }
 
     /// Writes the rows with their names, and then their boxes.
-    pub(crate) fn push(&mut self, text: &mut String, scene: &Scene<'_>) -> Result<(), AllocError> {
-        for (task, top) in self.tops.iter().enumerate() {
-            if let Some(top) = top {
-                push_name(text, task, *top)?;
+    pub(crate) fn push(&self, text: &mut String, scene: &Scene<'_>) -> Result<(), AllocError> {
+        for (task, below) in self.tops.iter().enumerate() {
+            if let Some(below) = below {
+                push_name(text, task, self.top.saturating_add(*below), &scene.scale)?;
             }
         }
         for rest in &scene.turns.rests {
@@ -81,12 +142,7 @@ impl TaskRows {
         Ok(())
     }
 
-    fn push_rest(
-        &mut self,
-        text: &mut String,
-        rest: &Rest,
-        scale: &Scale,
-    ) -> Result<(), AllocError> {
+    fn push_rest(&self, text: &mut String, rest: &Rest, scale: &Scale) -> Result<(), AllocError> {
         let (task, begin, end) = (rest.task, rest.begin, rest.end);
         let Some(place) = self.place(task, begin, end, scale) else {
             return Ok(());
@@ -108,7 +164,7 @@ impl TaskRows {
     }
 
     fn push_stretch(
-        &mut self,
+        &self,
         text: &mut String,
         stretch: &Stretch,
         scale: &Scale,
@@ -141,16 +197,22 @@ impl TaskRows {
     }
 
     /// Where a box of a task stands, or `None` where it is left out.
-    fn place(&mut self, task: TaskId, begin: u64, end: u64, scale: &Scale) -> Option<Place> {
-        let top = self.tops.get(task.index()).copied().flatten()?;
-        let left = scale.place(begin);
-        let width = Tenths(scale.place(end).0.saturating_sub(left.0));
+    fn place(&self, task: TaskId, begin: u64, end: u64, scale: &Scale) -> Option<Place> {
+        let below = self.tops.get(task.index()).copied().flatten()?;
+        let width = width_of(begin, end, scale);
         if width.0 < self.least {
-            self.left_out = self.left_out.saturating_add(1);
             return None;
         }
-        Some(Place { left, top, width })
+        Some(Place {
+            left: scale.place(begin),
+            top: self.top.saturating_add(below),
+            width,
+        })
     }
+}
+
+fn width_of(begin: u64, end: u64, scale: &Scale) -> Tenths {
+    Tenths(scale.place(end).0.saturating_sub(scale.place(begin).0))
 }
 
 /// Where a box stands.
@@ -177,9 +239,9 @@ fn boxes_shown(scene: &Scene<'_>) -> usize {
     shown
 }
 
-fn push_name(text: &mut String, task: usize, top: u64) -> Result<(), AllocError> {
+fn push_name(text: &mut String, task: usize, top: u64, scale: &Scale) -> Result<(), AllocError> {
     let base = top.saturating_add(16);
-    let (left, width) = (Scale::LEFT, Scale::WIDTH);
+    let (left, width) = (Scale::LEFT, scale.width());
     writeln!(
         text,
         "<text class=\"c\" x=\"10\" y=\"{base}\">task {task}</text>"

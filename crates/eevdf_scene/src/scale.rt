@@ -28,15 +28,25 @@ pub struct Scale {
     pub from: u64,
     /// The last one, no earlier than the first, which who makes a scale sees to.
     pub to: u64,
+    /// How wide the picture is, in units, of which each is a pixel where it isn't scaled.
+    pub page: u64,
 }
 
 impl Scale {
     /// The left edge of the lanes, in units of the picture.
     pub const LEFT: u64 = 90;
-    /// How wide the lanes are, in units.
-    pub const WIDTH: u64 = 890;
+    /// What is to the right of the lanes, in units.
+    pub const MARGIN: u64 = 20;
+
     /// The right edge of the lanes, in units.
-    pub const RIGHT: u64 = Scale::LEFT + Scale::WIDTH;
+    pub fn right(&self) -> u64 {
+        self.page.saturating_sub(Scale::MARGIN)
+    }
+
+    /// How wide the lanes are, in units.
+    pub fn width(&self) -> u64 {
+        self.right().saturating_sub(Scale::LEFT)
+    }
 
     /// How many nanoseconds are between the edges.
     pub fn length(&self) -> u64 {
@@ -71,7 +81,7 @@ impl Scale {
     /// The place of a time, at an edge where it isn't drawn.
     pub fn place(&self, time: u64) -> Tenths {
         let since = time.min(self.to).saturating_sub(self.from);
-        let tenths = part(since, 10 * Scale::WIDTH, self.length());
+        let tenths = part(since, self.width().saturating_mul(10), self.length());
         Tenths(tenths.saturating_add(10 * Scale::LEFT))
     }
 }

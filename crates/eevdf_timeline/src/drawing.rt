@@ -13,7 +13,7 @@ use eevdf_page::page_of;
 use eevdf_picture::picture_of;
 use eevdf_race::race_of;
 use eevdf_scene::{
-    Lags, MOST_CURVES, Notes, Observer, Scale, Scene, Shown, Turns, View, observe, shown_of,
+    Lags, MOST_CURVES, Notes, Observer, Scale, Scene, Shown, Turns, observe, shown_of,
     stretch_table_of, turns_of,
 };
 use eevdf_trace_events::trace_of;
@@ -86,7 +86,7 @@ fn text_of<T: Threads + Wait + Sync>(
     let schedule = Schedule {
         setup: workload.setup(),
         moments: &moments,
-        scale: scale_of(&moments, &words.view),
+        scale: scale_of(&moments, words),
         words,
         progress,
     };
@@ -244,7 +244,8 @@ fn notes_of(output: Output) -> Notes {
 }
 
 /// From the beginning to the end of all that was done, where the words don't say another time.
-fn scale_of(moments: &[Moment], view: &View) -> Scale {
+fn scale_of(moments: &[Moment], words: &Words) -> Scale {
+    let view = &words.view;
     let mut end = 0;
     for moment in moments {
         end = moment.end.max(end);
@@ -252,5 +253,6 @@ fn scale_of(moments: &[Moment], view: &View) -> Scale {
     Scale {
         from: view.from,
         to: view.to.unwrap_or(end).max(view.from),
+        page: words.width,
     }
 }

@@ -3,14 +3,14 @@
 /// What is printed where the words aren't known.
 pub(crate) const USAGE: &[u8] =
     b"usage: eevdf_timeline [--replay [--race]|--run] [--html|--perfetto|--table|--stats [--json]] [--rows cpus|tasks] \
-[--from NS] [--to NS] [--cpu N,..] [--task N,..] [FILE]\n";
+[--width PX] [--from NS] [--to NS] [--cpu N,..] [--task N,..] [FILE]\n";
 
 /// What `--help` prints.
 pub(crate) const HELP: &[u8] = b"\
 eevdf_timeline draws what the scheduler answers to a workload: a picture (SVG), a page (HTML), a trace or a table.
 
 usage: eevdf_timeline [--replay [--race]|--run] [--html|--perfetto|--table|--stats [--json]] [--rows cpus|tasks] \
-[--from NS] [--to NS] [--cpu N,..] [--task N,..] [FILE]
+[--width PX] [--from NS] [--to NS] [--cpu N,..] [--task N,..] [FILE]
 
   --replay     draws the workload's order, in place of its script
   --race       with --replay, draws the order's steps, and below them the one thread's history that they come to
@@ -21,6 +21,7 @@ usage: eevdf_timeline [--replay [--race]|--run] [--html|--perfetto|--table|--sta
   --stats      writes a table of figures
   --json       with --stats, writes the figures as JSON
   --rows ROWS  with tasks, a picture has a row for each task; with cpus, a lane for each CPU, as without it
+  --width PX   how wide a picture is, in pixels, from 320 to 10000; without it 1000
   --from NS    leaves out what is before this time, in nanoseconds; with --race, what is before this place of the order
   --to NS      leaves out what is after this time, or isn't before this place. What is partly in a time is there, and told
                whole; --stats counts the part

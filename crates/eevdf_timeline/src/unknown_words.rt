@@ -1,5 +1,6 @@
 //! What is said of words that aren't known.
 
+use crate::words::{LEAST_WIDTH, MOST_WIDTH, is_width};
 use eevdf_bench::{is_flag, may_name_file};
 use eevdf_explain::told_word;
 use eevdf_ops::CpuId;
@@ -20,7 +21,7 @@ const FLAGS: [&str; 8] = [
 const WITH_TIME: [&str; 2] = ["--from", "--to"];
 
 /// The flags that have a value behind them.
-pub(crate) const WITH_VALUE: [&str; 5] = ["--rows", "--from", "--to", "--cpu", "--task"];
+pub(crate) const WITH_VALUE: [&str; 6] = ["--rows", "--width", "--from", "--to", "--cpu", "--task"];
 
 fn takes_value(word: &str) -> bool {
     WITH_VALUE.contains(&word)
@@ -81,6 +82,17 @@ fn bad_value(alloc: Global, flag: &str, value: &str) -> Result<Option<String>, A
             Ok(Some(text))
         };
     }
+    if flag == "--width" {
+        return match value.parse::<u64>() {
+            Ok(width) if is_width(width) => Ok(None),
+            _ => {
+                let text = format!(in alloc;
+                    "--width takes a whole number of pixels from {LEAST_WIDTH} to {MOST_WIDTH}, and {told} is none\n"
+                )?;
+                Ok(Some(text))
+            }
+        };
+    }
     if WITH_TIME.contains(&flag) {
         return match value.parse::<u64>() {
             Ok(_) => Ok(None),
@@ -134,6 +146,8 @@ fn together(alloc: Global, words: &[String]) -> Result<String, AllocError> {
         "--race excludes --html, --perfetto, --table, --stats and --json\n"
     } else if has("--race") && (has("--rows") || has("--cpu") || has("--task")) {
         "a race is of all CPUs and tasks: --race excludes --rows, --cpu and --task\n"
+    } else if has("--race") && has("--width") {
+        "a race is as wide as its steps: --race excludes --width\n"
     } else if has("--html")
         && (has("--perfetto") || has("--table") || has("--stats") || has("--json"))
     {
@@ -144,6 +158,8 @@ fn together(alloc: Global, words: &[String]) -> Result<String, AllocError> {
         "--table excludes --perfetto, --stats and --json\n"
     } else if has("--rows") && (has("--perfetto") || has("--table") || has("--stats")) {
         "rows are of a picture: --rows excludes --perfetto, --table and --stats\n"
+    } else if has("--width") && (has("--perfetto") || has("--table") || has("--stats")) {
+        "a width is of a picture: --width excludes --perfetto, --table and --stats\n"
     } else if has("--json") && !has("--stats") {
         "--json stands with --stats\n"
     } else if has("--to") {

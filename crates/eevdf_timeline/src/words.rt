@@ -8,6 +8,13 @@ use eevdf_scene::{Choice, View};
 use std::alloc::{AllocError, Global};
 use std::convert::AsStr;
 
+/// How wide a picture is in pixels, at least and at most, and where no word says.
+pub(crate) const LEAST_WIDTH: u64 = 320;
+
+pub(crate) const MOST_WIDTH: u64 = 10_000;
+
+const WIDTH: u64 = 1000;
+
 /// What is written.
 #[derive(Clone, Copy, PartialEq, Eq, Debug)]
 pub enum Output {
@@ -35,6 +42,8 @@ pub struct Words {
     pub output: Output,
     /// What of the history is shown.
     pub view: View,
+    /// How wide a picture is, in pixels.
+    pub width: u64,
     /// The name of the file that is read, where it isn't standard input.
     pub file: Option<String>,
 }
@@ -66,6 +75,7 @@ fn asked_by(
     let source = source_of(matches.get_flag("replay"), matches.get_flag("run"))?;
     let output = output_of(matches)?;
     let by_task = is_by_task(output, matches.get_str("rows"))?;
+    let width = width_of(output, matches.get_str("width"))?;
     let has_choice = matches.get_str("cpu").is_some() || matches.get_str("task").is_some();
     check_race(output, source, has_choice)?;
     let from = number_of(matches.get_str("from"))?;
@@ -83,6 +93,7 @@ fn asked_by(
             from: from.unwrap_or(0),
             to,
         },
+        width,
         file: match file {
             Some(name) => Some(String::from_str(alloc, name)?),
             None => None,
@@ -124,14 +135,30 @@ fn is_by_task(output: Output, value: Option<&str>) -> Result<bool, WordFault> {
     let Some(word) = value else {
         return Ok(false);
     };
-    let has_picture = output == Output::Picture || output == Output::Page;
-    if has_picture && word == "tasks" {
+    if has_picture(output) && word == "tasks" {
         Ok(true)
-    } else if has_picture && word == "cpus" {
+    } else if has_picture(output) && word == "cpus" {
         Ok(false)
     } else {
         Err(WordFault::Words)
     }
+}
+
+/// So is a width.
+fn width_of(output: Output, value: Option<&str>) -> Result<u64, WordFault> {
+    match number_of(value)? {
+        None => Ok(WIDTH),
+        Some(width) if has_picture(output) && is_width(width) => Ok(width),
+        Some(_) => Err(WordFault::Words),
+    }
+}
+
+pub(crate) fn is_width(pixels: u64) -> bool {
+    LEAST_WIDTH <= pixels && pixels <= MOST_WIDTH
+}
+
+fn has_picture(output: Output) -> bool {
+    output == Output::Picture || output == Output::Page
 }
 
 /// A race is of an order, and of all CPUs and tasks.
@@ -202,8 +229,10 @@ fn program<'a>(alloc: Global) -> Result<Command<'a>, AllocError> {
         .arg(flag(alloc, "stats"))?
         .arg(flag(alloc, "json"))?
         .arg(flag(alloc, "race"))?;
-    let rows = output.arg(value(alloc, "rows"))?;
-    let window = rows.arg(value(alloc, "from"))?.arg(value(alloc, "to"))?;
+    let drawn = output
+        .arg(value(alloc, "rows"))?
+        .arg(value(alloc, "width"))?;
+    let window = drawn.arg(value(alloc, "from"))?.arg(value(alloc, "to"))?;
     window.arg(value(alloc, "cpu"))?.arg(value(alloc, "task"))
 }
 
